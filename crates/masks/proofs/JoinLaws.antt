@@ -1,0 +1,43 @@
+-- The masks of the items of a mask, joined: the least mask that has them all.
+use mathlib.Core.Path.{_≡_, sym, ap, subst, fun-ext}
+use mathlib.Core.Logic.{_⊎_, inl, inr}
+use mathlib.Core.Bool.{Bool, true, false, cond}
+use Prim.Native.Nat.{ℕ, zero, suc, _<_}
+use native.Mathlib.Nat.{not-suc-le-zero, le-of-suc-le-suc, eq-or-lt-of-le}
+use native.Mathlib.Omega.{arith}
+use lib.Bits.{bitOr}
+use lib.Dec.{T}
+use Rattle.masks.specs.Masks.{has, within, joined}
+use Rattle.masks.proofs.Truth.{T→true}
+use Rattle.masks.proofs.MaskLaws.{within-trans, within-zero, within-or, within-or-l, within-or-r}
+
+pub joined-least : (f : ℕ → ℕ) (m n x : ℕ) → ((k : ℕ) → k < n → T (has m k) → T (within (f k) x)) → T (within (joined f m n) x)
+unfolding joined
+joined-least f m zero x h = within-zero x
+joined-least f m (suc n) x h =
+    within-or (joined f m n) _ x (joined-least f m n x (λ k l. h k (omega arith))) (last (has m n) (h n (omega arith)))
+  where
+    last : (b : Bool) → (T b → T (within (f n) x)) → T (within (cond b (f n) 0) x)
+    last true g = g tt
+    last false g = within-zero x
+
+pub joined-has : (f : ℕ → ℕ) (m n k : ℕ) → k < n → T (has m k) → T (within (f k) (joined f m n))
+unfolding joined
+joined-has f m zero k l h = absurd (not-suc-le-zero l)
+joined-has f m (suc n) k l h = cases (λ g. joined-has f m n k g h) (eq-or-lt-of-le (le-of-suc-le-suc l))
+  where
+    cases : (k < n → T (within (f k) (joined f m n))) → (k ≡ n) ⊎ (k < n) → T (within (f k) (bitOr (joined f m n) (cond (has m n) (f n) 0)))
+    cases ih (inl e) =
+        subst
+        (λ (b : Bool). T (within (f k) (bitOr (joined f m n) (cond b (f n) 0))))
+        (sym (T→true (has m n) (subst (λ (x : ℕ). T (has m x)) e h)))
+        (subst (λ (x : ℕ). T (within (f x) (bitOr (joined f m n) (f n)))) (sym e) (within-or-r (joined f m n) (f n)))
+    cases ih (inr g) = within-trans (f k) (joined f m n) _ (ih g) (within-or-l (joined f m n) (cond (has m n) (f n) 0))
+
+pub joined-mono : (f g : ℕ → ℕ) (m m′ n : ℕ) → ((k : ℕ) → T (within (f k) (g k))) → ((k : ℕ) → T (has m k) → T (has m′ k))
+    → T (within (joined f m n) (joined g m′ n))
+joined-mono f g m m′ n h w =
+    joined-least f m n (joined g m′ n) (λ k l t. within-trans (f k) (g k) _ (h k) (joined-has g m′ n k l (w k t)))
+
+pub joined-ext : (f g : ℕ → ℕ) (m n : ℕ) → ((k : ℕ) → f k ≡ g k) → joined f m n ≡ joined g m n
+joined-ext f g m n h = ap (λ (e : ℕ → ℕ). joined e m n) (fun-ext h)
