@@ -1,0 +1,206 @@
+-- Of a register that keeps the rules and shows the origins `derived`: exact revokes.
+use mathlib.Core.Path.{_≡_, refl, sym, ap, ap₂, _∙_, subst}
+use mathlib.Core.Logic.{_⊎_, inl, inr, _↔_}
+use mathlib.Core.Bool.{Bool, true, false, cond, not, _&&_, _||_}
+use mathlib.Core.List.{List, [], _∷_}
+use Prim.Native.Nat.{ℕ, _<_}
+use native.Mathlib.Omega.{arith}
+use lib.Dec.{T, T-not, leb, ltb→lt}
+use Rattle.masks.specs.Masks.{has}
+use Rattle.masks.specs.Tests.{each, countBelow, mapFrom}
+use Rattle.masks.proofs.Truth.{or-l, or-r, or-cases, T→true, true→T}
+use Rattle.masks.proofs.Bounded.{countBelow-ext}
+use Rattle.model.specs.declared.Origin.{Origin}
+use Rattle.model.specs.declared.Origin.the-variants.{Role as ofRole, Capability as ofCapability}
+use Rattle.model.specs.declared.Capability.{Capability}
+use Rattle.model.specs.declared.Register.{Register}
+use Rattle.model.specs.State.{terms, authority, sessionAt, inLife, exists}
+use Rattle.model.specs.Lineage.{Descends, here, inLineage}
+use Rattle.model.specs.Setters.{withRevoked, withCapabilities}
+use Rattle.model.specs.Rulings.{Outcome, value, refused, Effect, Guard, capability, termsOf}
+use Rattle.model.specs.Sessions.{permits, checkRuling}
+use Rattle.model.specs.Revocation.{marked, revokeRuling}
+use Rattle.model.specs.Calls.{check, revoke, ruling, step}
+use Rattle.model.specs.Theorem.{asked, next, Yes, Due, OnDue, ChangesCheck, Revokes}
+use Rattle.model.proofs.Settling.{Clear, passed, Settled, accepted, declined, verdict, verdict-cases, step-answer}
+use Rattle.model.proofs.Kept.{Kept}
+use Rattle.model.proofs.Rules.{kept←}
+use Rattle.model.proofs.Tree.{inLineage→, inLineage←, descends-derived}
+use Rattle.model.proofs.Keeping.{with-capabilities}
+use Rattle.model.proofs.Revoking.{revoke-at, revoke-frames, revoke-capabilities}
+use Rattle.model.proofs.Running.{step-cases}
+use Rattle.model.proofs.History.{Shows}
+use Rattle.model.proofs.Checks.{value-refused, one-yes, shown, session-on, permits-entitled}
+
+module _ (r : Register) (derived : ℕ → Origin) (k : Kept r) (shows : Shows r derived) where
+  module _ (n : ℕ) (n-there : n < r .count) where
+    abbrev revoked : Register
+    revoked = withCapabilities r (mapFrom (marked (r .capabilities) n) 0 (r .capabilities))
+
+    mark-at : (i : ℕ) → i < r .count → capability revoked i ≡ withRevoked (capability r i) ((capability r i) .revoked || inLineage (r .capabilities) n i)
+    mark-at i l = revoke-at (r .enrolled) (r .roles) (r .count) (r .capabilities) (k .capabilities) n n-there i (omega (arith, k .capabilities .enough))
+
+    marked-at : (i : ℕ) → i < r .count → (capability revoked i) .revoked ≡ ((capability r i) .revoked || inLineage (r .capabilities) n i)
+    marked-at i l = ap (λ (c : Capability). c .revoked) (mark-at i l)
+
+    on→ : (i : ℕ) → i < r .count → T (inLineage (r .capabilities) n i) → Descends derived i n
+    on→ i l t =
+        descends-derived (r .enrolled) (r .roles) (r .count) (r .capabilities) (k .capabilities) derived shows l (inLineage→ (r .enrolled) (r .roles) (r .count) (r .capabilities) (k .capabilities) n i t)
+
+    on← : (i : ℕ) → i < r .count → Descends derived i n → T (inLineage (r .capabilities) n i)
+    on← i l c = inLineage← (r .enrolled) (r .roles) (r .count) (r .capabilities) (k .capabilities) n i l (shown r derived k shows l c)
+
+    marks-hold : (i : ℕ) → i < r .count → (T (not ((capability r i) .revoked)) × T ((capability revoked i) .revoked)) ↔ Due r derived n i
+    marks-hold i l = (
+      (λ q. record { unmarked = q .0; descends = on→ i l (by-lineage (q .0) (or-cases ((capability r i) .revoked) (inLineage (r .capabilities) n i) (subst T (marked-at i l) (q .1)))) }),
+      (λ d. (d .unmarked, subst T (sym (marked-at i l)) (or-r ((capability r i) .revoked) (inLineage (r .capabilities) n i) (on← i l (d .descends))))),
+    )
+      where
+        by-lineage : T (not ((capability r i) .revoked)) → T ((capability r i) .revoked) ⊎ T (inLineage (r .capabilities) n i) → T (inLineage (r .capabilities) n i)
+        by-lineage u (inl t) = absurd (T-not ((capability r i) .revoked) u t)
+        by-lineage u (inr t) = t
+
+    keeps-marks-hold : (i : ℕ) → i < r .count → T ((capability r i) .revoked) → T ((capability revoked i) .revoked)
+    keeps-marks-hold i l t = subst T (sym (marked-at i l)) (or-l ((capability r i) .revoked) (inLineage (r .capabilities) n i) t)
+
+    marks-only-hold : (i : ℕ) → i < r .count → capability revoked i ≡ withRevoked (capability r i) ((capability revoked i) .revoked)
+    marks-only-hold i l = mark-at i l ∙ ap (λ (b : Bool). withRevoked (capability r i) b) (sym (marked-at i l))
+
+    counts-hold : countBelow (r .count) (λ i. inLineage (r .capabilities) n i && not ((capability r i) .revoked)) ≡ countBelow (r .count) (λ i. (capability revoked i) .revoked && not ((capability r i) .revoked))
+    counts-hold =
+        countBelow-ext (r .count) _ _
+        (λ i l. newly ((capability r i) .revoked) (inLineage (r .capabilities) n i) ∙ ap (λ (b : Bool). b && not ((capability r i) .revoked)) (sym (marked-at i l)))
+      where
+        newly : (old on : Bool) → (on && not old) ≡ ((old || on) && not old)
+        newly true true = refl
+        newly true false = refl
+        newly false on = refl
+
+    -- on a role nothing changes; on a capability, the yes of those that descend from n
+    same-role : (j user p : ℕ) → permits revoked (ofRole j) user p ≡ permits r (ofRole j) user p
+    unfolding permits terms
+    same-role j user p = refl
+
+    cut-yes : (i user p : ℕ) → i < r .count → permits revoked (ofCapability i) user p ≡ (permits r (ofCapability i) user p && not (inLineage (r .capabilities) n i))
+    unfolding permits terms authority
+    cut-yes i user p l =
+        ap
+        (λ (c : Capability).
+        each
+        (has (c .holders) user ∷ not (c .revoked) ∷ (leb (c .first) (r .clock) && leb (r .clock) (c .last)) ∷ has (authority (r .roles) c) p ∷ []))
+        (mark-at i l)
+        ∙ without (has ((capability r i) .holders) user) ((capability r i) .revoked) (inLineage (r .capabilities) n i) (inLife (r .capabilities) (ofCapability i) (r .clock)) (has (authority (r .roles) (capability r i)) p)
+      where
+        without : (a x y c d : Bool) → (a && (not (x || y) && (c && (d && true)))) ≡ ((a && (not x && (c && (d && true)))) && not y)
+        without false x y c d = refl
+        without true true y c d = refl
+        without true false true false d = refl
+        without true false true true false = refl
+        without true false true true true = refl
+        without true false false false d = refl
+        without true false false true false = refl
+        without true false false true true = refl
+
+    revoked-kept : Kept revoked
+    revoked-kept =
+        with-capabilities r _ k
+        (revoke-frames (r .enrolled) (r .roles) (r .count) (r .capabilities) (k .capabilities) n n-there)
+        (revoke-capabilities (r .enrolled) (r .roles) (r .count) (r .capabilities) (k .capabilities) n n-there)
+
+    -- the check s p, by what its session is on
+    module _ (s p : ℕ) where
+      Changed : Type 0
+      Changed = ChangesCheck r revoked s p
+
+      Lost : Type 0
+      Lost = Yes r s p × OnDue r derived n s
+
+      -- where both are answered
+      lost : (o : Origin) → (sessionAt (r .sessions) s) .on ≡ o → T (exists (r .roles) (r .count) o)
+          → asked r (check s p) ≡ value (cond (permits r o ((sessionAt (r .sessions) s) .user) p) 1 0)
+          → asked revoked (check s p) ≡ value (cond (permits revoked o ((sessionAt (r .sessions) s) .user) p) 1 0)
+          → Changed ↔ Lost
+      unfolding Changed Lost exists
+      lost (ofRole j) e l a b = (
+        (λ h. absurd (h (a ∙ ap (λ (x : Bool). value (cond x 1 0)) (sym (same-role j _ p)) ∙ sym b))),
+        (λ q. let z : _≡_ {A = ℕ} 0 1 = cc (e, q .1 .1) in absurd (omega arith)),
+      )
+      lost (ofCapability i) e l a b = (
+        (λ h. gone h (permits r (ofCapability i) u p) refl (inLineage (r .capabilities) n i) refl),
+        (λ q h. kept-no (one-yes (permits r (ofCapability i) u p) (sym a ∙ q .0)) (on← i i-there (subst (λ (x : ℕ). Descends derived x n) (same-capability (q .1 .0) (q .1 .1)) (q .1 .2 .descends))) h),
+      )
+        where
+          u : ℕ
+          u = (sessionAt (r .sessions) s) .user
+
+          i-there : i < r .count
+          i-there = ltb→lt _ _ l
+
+          same-capability : (j : ℕ) → (sessionAt (r .sessions) s) .on ≡ ofCapability j → j ≡ i
+          same-capability j f = cc
+
+          after : (x y : Bool) → permits r (ofCapability i) u p ≡ x → inLineage (r .capabilities) n i ≡ y → asked revoked (check s p) ≡ value (cond (x && not y) 1 0)
+          after x y f g =
+              b ∙ ap (λ (z : Bool). value (cond z 1 0)) (cut-yes i u p i-there)
+              ∙ ap₂ (λ (c d : Bool). value (cond (c && not d) 1 0)) f g
+
+          gone : Changed → (x : Bool) → permits r (ofCapability i) u p ≡ x → (y : Bool) → inLineage (r .capabilities) n i ≡ y → Lost
+          gone h false f y g = absurd (h (a ∙ ap (λ (z : Bool). value (cond z 1 0)) f ∙ sym (after false y f g)))
+          gone h true f false g = absurd (h (a ∙ ap (λ (z : Bool). value (cond z 1 0)) f ∙ sym (after true false f g)))
+          gone h true f true g = (
+            a ∙ ap (λ (z : Bool). value (cond z 1 0)) f,
+            (i, e, record { unmarked = (permits-entitled r derived k shows i u p i-there (true→T _ f)) .lineage i here .unrevoked; descends = on→ i i-there (true→T _ g) }),
+          )
+
+          kept-no : T (permits r (ofCapability i) u p) → T (inLineage (r .capabilities) n i) → asked r (check s p) ≡ asked revoked (check s p) → ⊥
+          kept-no f g h =
+              let x : asked revoked (check s p) ≡ value 0 = after true true (T→true (permits r (ofCapability i) u p) f) (T→true (inLineage (r .capabilities) n i) g) in
+              let y : asked r (check s p) ≡ value 1 = a ∙ ap (λ (z : Bool). value (cond z 1 0)) (T→true (permits r (ofCapability i) u p) f) in
+              let z : _≡_ {A = ℕ} 0 1 = cc in
+              omega arith
+
+      checks-hold : Changed ↔ Lost
+      unfolding Changed Lost ruling checkRuling
+      checks-hold =
+          settled-one (verdict-cases ((checkRuling r s p) .guards)) (step-answer r (check s p) (kept← r k)) (step-answer revoked (check s p) (kept← revoked revoked-kept))
+        where
+          rs : List Guard
+          rs = (checkRuling r s p) .guards
+
+          v1 : ℕ
+          v1 = cond (permits r ((sessionAt (r .sessions) s) .on) ((sessionAt (r .sessions) s) .user) p) 1 0
+
+          v2 : ℕ
+          v2 = cond (permits revoked ((sessionAt (r .sessions) s) .on) ((sessionAt (r .sessions) s) .user) p) 1 0
+
+          settled-one : (Clear rs × ((v : ℕ) → verdict rs v ≡ value v)) ⊎ ((m : ℕ) × ((v : ℕ) → verdict rs v ≡ refused m))
+              → asked r (check s p) ≡ verdict rs v1 → asked revoked (check s p) ≡ verdict rs v2 → Changed ↔ Lost
+          settled-one (inl c) a b =
+              lost ((sessionAt (r .sessions) s) .on) refl (session-on r derived k shows s (c .0 .1 .0 .0)) (a ∙ c .1 v1) (b ∙ c .1 v2)
+          settled-one (inr m) a b = (
+            (λ h. absurd (h (a ∙ m .1 v1 ∙ sym (m .1 v2) ∙ sym b))),
+            (λ q. value-refused (sym (q .0) ∙ a ∙ m .1 v1)),
+          )
+
+  pub exact-revoke-holds : (user n v : ℕ) → asked r (revoke user n) ≡ value v → Revokes r (next r (revoke user n)) derived n v
+  unfolding ruling revokeRuling exists Changed Lost
+  exact-revoke-holds user n v e = cases (step-cases r (revoke user n) k)
+    where
+      cases : Settled r ((revokeRuling r user n) .guards) ((revokeRuling r user n) .result) ((revokeRuling r user n) .after) (step r (revoke user n)) → Revokes r (next r (revoke user n)) derived n v
+      cases (declined m q) = value-refused (sym e ∙ ap (λ (x : Effect). x .answer) q)
+      cases (accepted g q) =
+          let l : n < r .count = ltb→lt _ _ (passed 3 ((revokeRuling r user n) .guards) g .1 .0) in
+          subst
+          (λ (x : Register). Revokes r x derived n v)
+          (sym (ap (λ (x : Effect). x .after) q))
+          (record {
+            marks = marks-hold n l;
+            counts = same-value (sym e ∙ ap (λ (x : Effect). x .answer) q) ∙ counts-hold n l;
+            checks = checks-hold n l;
+            keeps-marks = keeps-marks-hold n l;
+            marks-only = marks-only-hold n l;
+            capabilities-only = refl;
+          })
+        where
+          same-value : {w : ℕ} → value v ≡ value w → v ≡ w
+          same-value f = cc

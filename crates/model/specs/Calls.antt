@@ -1,0 +1,60 @@
+-- Document 01, "The calls": the sixteen from enrol to close, and same, as one step over calls with arguments of any size.
+use mathlib.Core.List.{List, [], _∷_}
+use Prim.Native.Nat.{ℕ}
+use Rattle.model.specs.declared.Origin.{Origin}
+use Rattle.model.specs.declared.Register.{Register}
+use Rattle.model.specs.Rules.{wellFormed}
+use Rattle.model.specs.Rulings.{Effect, Ruling, Guard, _unless_, settle}
+use Rattle.model.specs.Administration.{enrolRuling, foundRuling, grantRuling, withdrawRuling, appointRuling, dismissRuling, clockRuling}
+use Rattle.model.specs.Delegation.{createRuling, newCapability, allowRuling, lendRuling, handRuling}
+use Rattle.model.specs.Sessions.{openRuling, checkRuling, closeRuling}
+use Rattle.model.specs.Revocation.{Change, amendRuling, revokeRuling}
+use Rattle.model.specs.Comparison.{sameRuling}
+
+-- `opening` is the call open, whose word is a keyword here
+pub data Call : Type 0 where
+  enrol : (user domain : ℕ) → Call
+  found : (role domain hours places devices : ℕ) → Call
+  grant : (role permission : ℕ) → Call
+  withdraw : (role permission : ℕ) → Call
+  appoint : (user role : ℕ) → Call
+  dismiss : (user role : ℕ) → Call
+  clock : (tick : ℕ) → Call
+  create : (user : ℕ) (origin : Origin) (hour place device first last uses creations hops hours places devices : ℕ) → Call
+  allow : (user capability permissions : ℕ) → Call
+  lend : (user capability roles : ℕ) → Call
+  hand : (user receiver capability : ℕ) → Call
+  opening : (session user : ℕ) (on : Origin) (hour place device : ℕ) → Call
+  check : (session permission : ℕ) → Call
+  amend : (user capability : ℕ) (change : Change) → Call
+  revoke : (user capability : ℕ) → Call
+  close : (session : ℕ) → Call
+  same : (first second : ℕ) → Call
+
+unfoldable pub ruling : Register → Call → Ruling
+ruling r (enrol user domain) = enrolRuling r user domain
+ruling r (found k domain hours places devices) = foundRuling r k domain hours places devices
+ruling r (grant k p) = grantRuling r k p
+ruling r (withdraw k p) = withdrawRuling r k p
+ruling r (appoint user k) = appointRuling r user k
+ruling r (dismiss user k) = dismissRuling r user k
+ruling r (clock tick) = clockRuling r tick
+ruling r (create user o hour place device first last uses creations hops hours places devices) =
+    createRuling r user o hour place device (newCapability user o first last uses creations hops hours places devices)
+ruling r (allow user n mask) = allowRuling r user n mask
+ruling r (lend user n mask) = lendRuling r user n mask
+ruling r (hand user receiver n) = handRuling r user receiver n
+ruling r (opening s user o hour place device) = openRuling r s user o hour place device
+ruling r (check s p) = checkRuling r s p
+ruling r (amend user n change) = amendRuling r user n change
+ruling r (revoke user n) = revokeRuling r user n
+ruling r (close s) = closeRuling r s
+ruling r (same m n) = sameRuling r m n
+
+-- the call on a register that is known to keep the shelf rules
+unfoldable pub settled : Register → Call → Effect
+settled r c = settle r ((ruling r c) .guards) ((ruling r c) .result) ((ruling r c) .after)
+
+-- "The first that applies is answered: 15 (the register handed in breaks a shelf rule), then .."
+unfoldable pub step : Register → Call → Effect
+step r c = settle r (15 unless (wellFormed r ∷ []) ∷ (ruling r c) .guards) ((ruling r c) .result) ((ruling r c) .after)

@@ -1,0 +1,26 @@
+-- Document 01 as definitions, in its order. What is believed is here; what is proved of it is in `proofs/`.
+pub mod State
+pub mod Lineage
+pub mod Rules
+pub mod Invariant
+pub mod Setters
+pub mod Rulings
+pub mod Administration
+pub mod Delegation
+pub mod Sessions
+pub mod Revocation
+pub mod Comparison
+pub mod Calls
+pub mod Sweeps
+pub mod Fields
+pub mod Image
+pub mod Letters
+pub mod Words
+pub mod Lines
+pub mod Journal
+pub mod Entry
+pub mod Requests
+pub mod Lists
+pub mod Theorem
+pub mod Edges
+pub mod Listing

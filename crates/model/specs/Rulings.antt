@@ -1,0 +1,73 @@
+-- Document 01, "The calls": "A call answers a value or a refusal. .. The first that applies is answered".
+use mathlib.Core.Bool.{Bool, true, false, not}
+use mathlib.Core.List.{List, [], _∷_}
+use Prim.Native.Nat.{ℕ}
+use Rattle.masks.specs.Masks.{has}
+use Rattle.masks.specs.Tests.{each}
+use Rattle.model.specs.declared.Origin.{Origin}
+use Rattle.model.specs.declared.Role.{Role}
+use Rattle.model.specs.declared.Capability.{Capability}
+use Rattle.model.specs.declared.Register.{Register}
+use Rattle.model.specs.State.{roleAt, capabilityAt, sessionAt, exists, Terms, terms}
+
+-- "A call answers a value or a refusal. A refusal is its number alone"
+pub data Outcome : Type 0 where
+  value : ℕ → Outcome
+  refused : ℕ → Outcome
+
+-- what a call answers, and the register that it leaves
+pub record Effect : Type 0 where
+  pub answer : Outcome
+  pub after : Register
+
+-- refused with the number n unless all the tests pass, or when the test passes
+infix 68 _unless_ _when_
+pub data Guard : Type 0 where
+  _unless_ : ℕ → List Bool → Guard
+  _when_ : ℕ → Bool → Guard
+
+abbrev pub applies : Guard → Bool
+applies (n unless ts) = not (each ts)
+applies (n when t) = t
+
+abbrev pub number : Guard → ℕ
+number (n unless ts) = n
+number (n when t) = n
+
+-- a call's refusals in their order, its value, and the register after it
+pub record Ruling : Type 0 where
+  pub guards : List Guard
+  pub result : ℕ
+  pub after : Register
+
+-- "The first that applies is answered"; refused, the register stays untouched
+unfoldable pub settle : Register → List Guard → ℕ → Register → Effect
+settle r [] v s = record { answer = value v; after = s }
+settle r (q ∷ rest) v s =
+    elim (applies q) [
+      | true ↦ record { answer = refused (number q); after = r }
+      | false ↦ settle r rest v s
+    ]
+
+-- ---- what the tests of 3 ask, and short names
+
+-- "a user .. not there"
+abbrev pub enrolled : Register → ℕ → Bool
+enrolled r user = has (r .enrolled) user
+
+-- "a .. role or pass not there"
+abbrev pub present : Register → Origin → Bool
+present r o = exists (r .roles) (r .count) o
+
+-- "a session not open"
+abbrev pub opened : Register → ℕ → Bool
+opened r s = (sessionAt (r .sessions) s) .active
+
+abbrev pub role : Register → ℕ → Role
+role r k = roleAt (r .roles) k
+
+abbrev pub capability : Register → ℕ → Capability
+capability r n = capabilityAt (r .capabilities) n
+
+abbrev pub termsOf : Register → Origin → Terms
+termsOf r o = terms (r .roles) (r .capabilities) o

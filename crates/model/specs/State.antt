@@ -1,0 +1,202 @@
+-- Document 01, "What the shelf holds": a fresh register, authority, what an origin allows, life, context.
+-- A capability is the document's pass.
+use mathlib.Core.Bool.{Bool, true, false, _&&_}
+use mathlib.Core.List.{List, [], _∷_}
+use Prim.Native.Nat.{ℕ, _^_}
+use lib.Bits.{bitOr}
+use lib.Dec.{leb, ltb}
+use lib.ListN.{getD, replicate}
+use Rattle.masks.specs.Masks.{has, within, joined}
+use Rattle.masks.specs.Tests.{each, implies}
+use Rattle.model.specs.declared.Origin.{Origin}
+use Rattle.model.specs.declared.Origin.the-variants.{Role as ofRole, Capability as ofCapability}
+use Rattle.model.specs.declared.Role.{Role}
+use Rattle.model.specs.declared.Capability.{Capability}
+use Rattle.model.specs.declared.Session.{Session}
+use Rattle.model.specs.declared.Register.{Register}
+
+-- ---- "what is kept for a thing not there is 0"
+
+abbrev pub blankRole : Role
+blankRole =
+    record { founded = false; domain = 0; permissions = 0; hours = 0; places = 0; devices = 0; appointed = 0 }
+
+abbrev pub blankCapability : Capability
+blankCapability =
+    record {
+      origin = ofRole 0;
+      creator = 0;
+      permissions = 0;
+      lent = 0;
+      holders = 0;
+      first = 0;
+      last = 0;
+      «use_limit» = 0;
+      uses = 0;
+      «creation_limit» = 0;
+      creations = 0;
+      «hop_limit» = 0;
+      hops = 0;
+      hours = 0;
+      places = 0;
+      devices = 0;
+      revoked = false;
+    }
+
+abbrev pub blankSession : Session
+blankSession = record { active = false; user = 0; on = ofRole 0; hour = 0; place = 0; device = 0 }
+
+-- "A fresh register has clock 0 and nothing else."
+abbrev pub fresh : Register
+fresh =
+    record {
+      clock = 0;
+      enrolled = 0;
+      domains = replicate 64 0;
+      roles = replicate 32 blankRole;
+      count = 0;
+      capabilities = replicate 256 blankCapability;
+      sessions = replicate 64 blankSession;
+    }
+
+-- ---- things by their number
+
+abbrev pub roleAt : List Role → ℕ → Role
+roleAt roles k = getD roles k blankRole
+
+abbrev pub capabilityAt : List Capability → ℕ → Capability
+capabilityAt cs n = getD cs n blankCapability
+
+abbrev pub sessionAt : List Session → ℕ → Session
+sessionAt ss s = getD ss s blankSession
+
+abbrev pub originAt : List Capability → ℕ → Origin
+originAt cs n = (capabilityAt cs n) .origin
+
+-- a role is founded, a capability has been created
+unfoldable pub exists : List Role → ℕ → Origin → Bool
+exists roles count (ofRole k) = (roleAt roles k) .founded
+exists roles count (ofCapability n) = ltb n count
+
+-- ---- authority
+
+-- "A role's authority is its permissions."
+unfoldable pub roleAuthority : List Role → ℕ → ℕ
+roleAuthority roles k = (roleAt roles k) .permissions
+
+-- the authorities of the roles of a mask, joined
+unfoldable pub lentAuthority : List Role → ℕ → ℕ
+lentAuthority roles m = joined (roleAuthority roles) m 32
+
+-- "A pass's authority is its own permissions joined with the authorities of its lent roles."
+unfoldable pub authority : List Role → Capability → ℕ
+authority roles c = bitOr (c .permissions) (lentAuthority roles (c .lent))
+
+-- ---- what an origin allows, a role or a capability alike
+
+pub record Terms : Type 0 where
+  pub grants : ℕ
+  pub lendable : ℕ
+  pub hours : ℕ
+  pub places : ℕ
+  pub devices : ℕ
+  pub first : ℕ
+  pub last : ℕ
+  pub use-limit : ℕ
+  pub creation-limit : ℕ
+  pub hop-limit : ℕ
+  pub revoked : Bool
+
+-- the terms of a capability that grants the permissions p and may lend the roles m
+abbrev pub termsWith : ℕ → ℕ → Capability → Terms
+termsWith p m c =
+    record {
+      grants = p;
+      lendable = m;
+      hours = c .hours;
+      places = c .places;
+      devices = c .devices;
+      first = c .first;
+      last = c .last;
+      use-limit = c .«use_limit»;
+      creation-limit = c .«creation_limit»;
+      hop-limit = c .«hop_limit»;
+      revoked = c .revoked;
+    }
+
+-- the roles that whoever has the roles m may lend: just these
+abbrev pub mayLend : List Role → ℕ → ℕ
+mayLend roles m = m
+
+-- "An origin may give the permissions of its authority, and the roles lent to it .."
+abbrev pub capabilityTerms : List Role → Capability → Terms
+capabilityTerms roles c = termsWith (authority roles c) (mayLend roles (c .lent)) c
+
+-- ".. or, where it is a role, just itself."
+-- A role's life "is 0 to 4,294,967,295", its limits "are 65,535"; "a role never is" revoked
+abbrev pub roleTerms : List Role → ℕ → Terms
+roleTerms roles k =
+    record {
+      grants = roleAuthority roles k;
+      lendable = mayLend roles (2 ^ k);
+      hours = (roleAt roles k) .hours;
+      places = (roleAt roles k) .places;
+      devices = (roleAt roles k) .devices;
+      first = 0;
+      last = 4294967295;
+      use-limit = 65535;
+      creation-limit = 65535;
+      hop-limit = 65535;
+      revoked = false;
+    }
+
+unfoldable pub terms : List Role → List Capability → Origin → Terms
+terms roles cs (ofRole k) = roleTerms roles k
+terms roles cs (ofCapability n) = capabilityTerms roles (capabilityAt cs n)
+
+-- what a capability claims of its origin: own permissions, lent roles, life, context and limits
+abbrev pub claims : Capability → Terms
+claims c = termsWith (c .permissions) (c .lent) c
+
+-- "Below its origin a pass has: own permissions within the origin's authority; lent roles within ..; each context mask
+-- within; life within ..; each limit at most the origin's ..; the revoked mark if the origin has it."
+abbrev pub belowTests : Terms → Terms → List Bool
+belowTests a b =
+    within (a .grants) (b .grants)
+    ∷ within (a .lendable) (b .lendable)
+    ∷ within (a .hours) (b .hours)
+    ∷ within (a .places) (b .places)
+    ∷ within (a .devices) (b .devices)
+    ∷ leb (b .first) (a .first)
+    ∷ leb (a .last) (b .last)
+    ∷ leb (a .use-limit) (b .use-limit)
+    ∷ leb (a .creation-limit) (b .creation-limit)
+    ∷ leb (a .hop-limit) (b .hop-limit)
+    ∷ implies (b .revoked) (a .revoked)
+    ∷ []
+
+unfoldable pub below : Terms → Terms → Bool
+below a b = each (belowTests a b)
+
+-- ---- life, context, members
+
+-- "A life includes both its ends."; a role's is the whole time
+abbrev pub inLife : List Capability → Origin → ℕ → Bool
+inLife cs (ofRole k) tick = true
+inLife cs (ofCapability n) tick = leb ((capabilityAt cs n) .first) tick && leb tick ((capabilityAt cs n) .last)
+
+-- "the hour (0 to 23), place and device (0 to 15)"
+unfoldable pub inContext : ℕ → ℕ → ℕ → Bool
+inContext hour place device = each (ltb hour 24 ∷ ltb place 16 ∷ ltb device 16 ∷ [])
+
+-- "A context is admitted when all three masks have its bit."
+abbrev pub admittedTests : Terms → ℕ → ℕ → ℕ → List Bool
+admittedTests t hour place device = has (t .hours) hour ∷ has (t .places) place ∷ has (t .devices) device ∷ []
+
+unfoldable pub admitted : Terms → ℕ → ℕ → ℕ → Bool
+admitted t hour place device = each (admittedTests t hour place device)
+
+-- the user is appointed to the role, or holds the capability
+abbrev pub memberOf : List Role → List Capability → Origin → ℕ → Bool
+memberOf roles cs (ofRole k) user = has ((roleAt roles k) .appointed) user
+memberOf roles cs (ofCapability n) user = has ((capabilityAt cs n) .holders) user

@@ -1,0 +1,117 @@
+-- Document 01's third demand: one claim about every list of calls, refused ones included, from any register that keeps the
+-- shelf rules. `proofs/ListTheorem.antt` proves it. Lists may contain same, save and load too.
+use mathlib.Core.Path.{_≡_}
+use mathlib.Core.Logic.{_↔_, _≢_}
+use mathlib.Core.Bool.{Bool, not, _&&_}
+use mathlib.Core.List.{List}
+use Prim.Native.Nat.{ℕ, suc, _≤_, _<_}
+use lib.Dec.{T}
+use Rattle.masks.specs.Masks.{has, within}
+use Rattle.masks.specs.Tests.{countBelow}
+use Rattle.model.specs.declared.Origin.{Origin}
+use Rattle.model.specs.declared.Origin.the-variants.{Role as ofRole, Capability as ofCapability}
+use Rattle.model.specs.declared.Register.{Register}
+use Rattle.model.specs.State.{fresh, authority, roleAuthority, inLife, sessionAt}
+use Rattle.model.specs.Lineage.{Descends, Reaches}
+use Rattle.model.specs.Rules.{wellFormed}
+use Rattle.model.specs.Setters.{withRevoked, withCapabilities}
+use Rattle.model.specs.Rulings.{Outcome, value, role, capability, opened}
+use Rattle.model.specs.Calls.{Call, check, revoke, step}
+use Rattle.model.specs.Lists.{Event, run, derivedFrom}
+
+-- what a call answers, and the register after it
+abbrev pub asked : Register → Call → Outcome
+asked r c = (step r c) .answer
+
+abbrev pub next : Register → Call → Register
+next r c = (step r c) .after
+
+-- "Yes is a check's value 1."
+abbrev pub Yes : Register → ℕ → ℕ → Type 0
+Yes r s p = asked r (check s p) ≡ value 1
+
+-- ---- containment: "A mask lies within another that it does not exceed, a life within one that starts no later and ends no
+-- earlier, a limit within one at least as large."
+pub record Contained (r : Register) (lower upper : ℕ) : Type 0 where
+  pub authority-within : T (within (authority (r .roles) (capability r lower)) (authority (r .roles) (capability r upper)))
+  pub first : (capability r upper) .first ≤ (capability r lower) .first
+  pub last : (capability r lower) .last ≤ (capability r upper) .last
+  pub hours : T (within ((capability r lower) .hours) ((capability r upper) .hours))
+  pub places : T (within ((capability r lower) .places) ((capability r upper) .places))
+  pub devices : T (within ((capability r lower) .devices) ((capability r upper) .devices))
+  pub use-limit : (capability r lower) .«use_limit» ≤ (capability r upper) .«use_limit»
+  pub creation-limit : (capability r lower) .«creation_limit» ≤ (capability r upper) .«creation_limit»
+  pub hop-limit : (capability r lower) .«hop_limit» ≤ (capability r upper) .«hop_limit»
+  -- it is revoked if the upper is
+  pub revoked : T ((capability r upper) .revoked) → T ((capability r lower) .revoked)
+
+-- ---- exact checks
+
+-- capability m grants permission p, is not revoked, and is in life
+pub record Sound (r : Register) (p m : ℕ) : Type 0 where
+  pub grants : T (has (authority (r .roles) (capability r m)) p)
+  pub unrevoked : T (not ((capability r m) .revoked))
+  pub alive : T (inLife (r .capabilities) (ofCapability m) (r .clock))
+
+-- role k grants permission p and is in life; it is never revoked
+pub record RoleSound (r : Register) (p k : ℕ) : Type 0 where
+  pub grants : T (has (roleAuthority (r .roles) k) p)
+  pub alive : T (inLife (r .capabilities) (ofRole k) (r .clock))
+
+-- the user holds capability n, and every capability on its lineage and the role where it ends are sound
+pub record Entitled (r : Register) (derived : ℕ → Origin) (user p n : ℕ) : Type 0 where
+  pub holder : T (has ((capability r n) .holders) user)
+  pub lineage : (m : ℕ) → Descends derived n m → Sound r p m
+  pub ends : (k : ℕ) → Reaches derived (suc n) n k → RoleSound r p k
+
+-- ---- exact revokes
+
+-- capability i is unmarked, and from the named capability n downward
+pub record Due (r : Register) (derived : ℕ → Origin) (n i : ℕ) : Type 0 where
+  pub unmarked : T (not ((capability r i) .revoked))
+  pub descends : Descends derived i n
+
+-- "A revoke changes a check if the same check, asked just before and just after it, answers differently."
+abbrev pub ChangesCheck : Register → Register → ℕ → ℕ → Type 0
+ChangesCheck r r′ s p = asked r (check s p) ≢ asked r′ (check s p)
+
+-- session s is on a capability that is due
+abbrev pub OnDue : Register → (ℕ → Origin) → ℕ → ℕ → Type 0
+OnDue r derived n s = (i : ℕ) × ((sessionAt (r .sessions) s) .on ≡ ofCapability i) × Due r derived n i
+
+-- what an accepted revoke of capability n with the value v does, from r to r′
+pub record Revokes (r r′ : Register) (derived : ℕ → Origin) (n v : ℕ) : Type 0 where
+  -- it marks exactly the unmarked capabilities from the named one downward
+  pub marks : (i : ℕ) → i < r .count → (T (not ((capability r i) .revoked)) × T ((capability r′ i) .revoked)) ↔ Due r derived n i
+  -- its value is their number
+  pub counts : v ≡ countBelow (r .count) (λ i. (capability r′ i) .revoked && not ((capability r i) .revoked))
+  -- the checks it changes are exactly the yes answers of sessions on those
+  pub checks : (s p : ℕ) → ChangesCheck r r′ s p ↔ (Yes r s p × OnDue r derived n s)
+  -- nothing else changes: no mark is taken away, no other field of a capability, no other part of the register
+  pub keeps-marks : (i : ℕ) → i < r .count → T ((capability r i) .revoked) → T ((capability r′ i) .revoked)
+  pub marks-only : (i : ℕ) → i < r .count → capability r′ i ≡ withRevoked (capability r i) ((capability r′ i) .revoked)
+  pub capabilities-only : r′ ≡ withCapabilities r (r′ .capabilities)
+
+-- ---- the claim about a register r after a list, where `derived` is the derivation by history
+
+pub record Guarantee (r : Register) (derived : ℕ → Origin) : Type 0 where
+  -- the register keeps the shelf rules
+  pub formed : T (wellFormed r)
+  -- where one capability is derived from another, directly or through others, it is contained in it
+  pub containment : (lower upper : ℕ) → lower < r .count → Descends derived lower upper → Contained r lower upper
+  -- the lineage of capability n reaches a founded role in at most n + 1 steps
+  pub bounded : (n : ℕ) → n < r .count → (k : ℕ) × Reaches derived (suc n) n k × T ((role r k) .founded)
+  -- a session on a capability is told yes for a permission exactly when it is entitled to it
+  pub exact-check : (s p n : ℕ) → T (opened r s) → (sessionAt (r .sessions) s) .on ≡ ofCapability n
+      → Yes r s p ↔ Entitled r derived ((sessionAt (r .sessions) s) .user) p n
+  -- if an accepted revoke comes next
+  pub exact-revoke : (user n v : ℕ) → asked r (revoke user n) ≡ value v → Revokes r (next r (revoke user n)) derived n v
+
+-- the third demand
+abbrev pub ListTheorem : Type 0
+ListTheorem =
+    (start : Register) (events : List Event) → T (wellFormed start) → Guarantee (run start events) (derivedFrom start events)
+
+-- and it has a start
+abbrev pub FreshStart : Type 0
+FreshStart = T (wellFormed fresh)

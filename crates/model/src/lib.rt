@@ -1,0 +1,195 @@
+// The register by value and all that it holds, requests and answers. A capability is document 01's pass.
+ghost use mathlib.Core.Path.{_≡_};
+ghost use Rattle.model.specs.State.{fresh as freshRegister};
+
+// What a capability is derived from, and what a session is opened on: a role or a capability, by number.
+pub enum Origin {
+    Role(u8),
+    Capability(u8),
+}
+
+pub struct Role {
+    pub founded: bool,
+    pub domain: u8,
+    pub permissions: u32,
+    pub hours: u32,
+    pub places: u16,
+    pub devices: u16,
+    pub appointed: u64,
+}
+
+pub struct Capability {
+    pub origin: Origin,
+    pub creator: u8,
+    pub permissions: u32,
+    pub lent: u32,
+    pub holders: u64,
+    pub first: u32,
+    pub last: u32,
+    pub use_limit: u16,
+    pub uses: u16,
+    pub creation_limit: u16,
+    pub creations: u16,
+    pub hop_limit: u16,
+    pub hops: u16,
+    pub hours: u32,
+    pub places: u16,
+    pub devices: u16,
+    pub revoked: bool,
+}
+
+pub struct Session {
+    pub active: bool,
+    pub user: u8,
+    pub on: Origin,
+    pub hour: u8,
+    pub place: u8,
+    pub device: u8,
+}
+
+pub struct Register {
+    pub clock: u32,
+    pub enrolled: u64,
+    pub domains: [u8; 64],
+    pub roles: [Role; 32],
+    pub count: u16,
+    pub capabilities: [Capability; 256],
+    pub sessions: [Session; 64],
+}
+
+// One case for each refusal; `refusalNumber` in specs/Requests.antt gives the document's number.
+pub enum Refusal {
+    Malformed,
+    Range,
+    Missing,
+    Unchanged,
+    Domain,
+    Forbidden,
+    Revoked,
+    Expired,
+    Context,
+    Exhausted,
+    Exceeds,
+    Full,
+    Past,
+    Image,
+    Broken,
+    Room,
+}
+
+pub enum Answer {
+    Value(u32),
+    Refused(Refusal),
+}
+
+pub struct Reply {
+    pub answer: Answer,
+    pub register: Register,
+}
+
+// A role or a capability as a request names it: any number that a line can hold.
+pub enum Named {
+    Role(u32),
+    Capability(u32),
+}
+
+pub enum Change {
+    Raise(u32),
+    Lower(u32),
+}
+
+pub struct Context {
+    pub hour: u32,
+    pub place: u32,
+    pub device: u32,
+}
+
+// What `create` asks for: life, limits and the three context masks.
+pub struct Plan {
+    pub first: u32,
+    pub last: u32,
+    pub uses: u32,
+    pub creations: u32,
+    pub hops: u32,
+    pub hours: u32,
+    pub places: u32,
+    pub devices: u32,
+}
+
+// The seventeen journal words with their arguments, in the document's order.
+pub enum Request {
+    Enrol(u32, u32),
+    Found(u32, u32, u32, u32, u32),
+    Grant(u32, u32),
+    Withdraw(u32, u32),
+    Appoint(u32, u32),
+    Dismiss(u32, u32),
+    Clock(u32),
+    Create(u32, Named, Context, Plan),
+    Allow(u32, u32, u32),
+    Lend(u32, u32, u32),
+    Hand(u32, u32, u32),
+    Open(u32, u32, Named, Context),
+    Check(u32, u32),
+    Amend(u32, u32, Change),
+    Revoke(u32, u32),
+    Close(u32),
+    Same(u32, u32),
+}
+
+// The parser's answer: a request, or none.
+pub enum Parsed {
+    Line(Request),
+    NoRequest,
+}
+
+// "A fresh register has clock 0 and nothing else."
+pub fn fresh() -> Register
+    ensures { λ r. ⌜ r ≡ freshRegister ⌝ }
+{
+    let role = Role {
+        founded: false,
+        domain: 0,
+        permissions: 0,
+        hours: 0,
+        places: 0,
+        devices: 0,
+        appointed: 0,
+    };
+    let capability = Capability {
+        origin: Origin::Role(0),
+        creator: 0,
+        permissions: 0,
+        lent: 0,
+        holders: 0,
+        first: 0,
+        last: 0,
+        use_limit: 0,
+        uses: 0,
+        creation_limit: 0,
+        creations: 0,
+        hop_limit: 0,
+        hops: 0,
+        hours: 0,
+        places: 0,
+        devices: 0,
+        revoked: false,
+    };
+    let session = Session {
+        active: false,
+        user: 0,
+        on: Origin::Role(0),
+        hour: 0,
+        place: 0,
+        device: 0,
+    };
+    Register {
+        clock: 0,
+        enrolled: 0,
+        domains: [0; 64],
+        roles: [role; 32],
+        count: 0,
+        capabilities: [capability; 256],
+        sessions: [session; 64],
+    }
+}
