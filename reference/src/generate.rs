@@ -1,0 +1,48 @@
+//! Generators for tests and comparisons, all driven by a seeded
+//! [`crate::random::Random`]: requests that are mostly meaningful, registers
+//! that keep the rules, and damage to registers and images.
+
+pub mod damage;
+mod draw;
+pub mod profile;
+pub mod registers;
+pub mod requests;
+
+pub use damage::{damage_image, damage_register};
+pub use profile::Profile;
+pub use registers::register;
+pub use requests::{request, requests};
+
+/// Numbers at and around the edges of the document's ranges.
+pub const BOUNDARIES: [u64; 30] = [
+    0,
+    1,
+    2,
+    7,
+    8,
+    15,
+    16,
+    23,
+    24,
+    31,
+    32,
+    63,
+    64,
+    65,
+    127,
+    128,
+    254,
+    255,
+    256,
+    257,
+    65_534,
+    65_535,
+    65_536,
+    16_777_215,
+    16_777_216,
+    2_147_483_648,
+    4_294_967_294,
+    4_294_967_295,
+    4_294_967_296,
+    u64::MAX,
+];

@@ -1,0 +1,282 @@
+//! A list of calls with the claims of the mission's third demand, asserted at
+//! every step. The derivation is the test's own: kept from the start and from
+//! the accepted creates, and never read off the register after that.
+
+use reference::register::has;
+use reference::{apply, apply_trusted, well_formed, Answer, Capability};
+use reference::{Creation, Named, Origin, Register, Request};
+
+/// The answers to all checks: 64 sessions by 32 permissions.
+type Checks = Vec<[Answer; 32]>;
+
+/// What was seen on the way, so that no claim holds for want of cases.
+#[derive(Clone, Debug, Default)]
+pub struct Tally {
+    /// Accepted calls, in the order of the words.
+    pub accepted: [u64; 17],
+    /// Refusals, by their number.
+    pub refused: [u64; 17],
+    /// Revokes that marked more than one pass.
+    pub wide_revokes: u64,
+    /// Revokes with a pass below that was marked before.
+    pub partial_revokes: u64,
+    /// Checks changed by revokes.
+    pub changed_checks: u64,
+    /// Checks with the value 1 on a pass that has a pass as origin.
+    pub deep_yes: u64,
+    /// The longest climb.
+    pub depth: usize,
+}
+
+/// The register and the derivation of its passes.
+pub struct Monitor {
+    pub register: Register,
+    origins: Vec<Origin>,
+    steps: u64,
+    pub tally: Tally,
+}
+
+impl Monitor {
+    pub fn new(start: Register, tally: Tally) -> Monitor {
+        let mut monitor = Monitor { register: start, origins: Vec::new(), steps: 0, tally };
+        monitor.restart();
+        monitor
+    }
+
+    /// "an accepted load starts the list anew from its image".
+    pub fn load(&mut self, register: Register) {
+        self.register = register;
+        self.restart();
+    }
+
+    /// "A pass is cut from the origin that its accepted create named or,
+    /// without one in the list, that the start shows."
+    fn restart(&mut self) {
+        let count = usize::from(self.register.count);
+        let passes = &self.register.capabilities[..count];
+        self.origins = passes.iter().map(|capability| capability.origin).collect();
+        self.assert_claims();
+        self.assert_checks();
+    }
+
+    /// Performs the call and asserts all claims.
+    pub fn step(&mut self, request: &Request) -> Answer {
+        let before = self.register.clone();
+        let answer = apply(&mut self.register, request);
+        match answer {
+            Err(refusal) => {
+                assert_eq!(self.register, before, "changed by a refusal: {request:?}");
+                self.tally.refused[usize::from(refusal)] += 1;
+            }
+            Ok(value) => {
+                self.tally.accepted[request.index()] += 1;
+                self.accepted(request, value, &before);
+            }
+        }
+        self.assert_claims();
+        self.steps += 1;
+        if self.steps.is_multiple_of(4) {
+            self.assert_checks();
+        }
+        answer
+    }
+
+    fn accepted(&mut self, request: &Request, value: u64, before: &Register) {
+        match request {
+            Request::Create(Creation { origin, .. }) => {
+                assert_eq!(value, self.origins.len() as u64);
+                self.origins.push(origin_of(*origin));
+            }
+            Request::Revoke { capability, .. } => {
+                return self.revoked(*capability as usize, value, before);
+            }
+            _ => (),
+        }
+        let marks = |register: &Register| register.capabilities.map(|kept| kept.revoked);
+        assert_eq!(marks(before), marks(&self.register), "{request:?}");
+    }
+
+    /// The passes above this one by the derivation, and the role at the end.
+    fn above(&self, number: usize) -> (Vec<usize>, usize) {
+        match self.origins[number] {
+            Origin::Role(role) => (Vec::new(), usize::from(role)),
+            Origin::Capability(upper) => {
+                let (mut uppers, role) = self.above(usize::from(upper));
+                uppers.insert(0, usize::from(upper));
+                (uppers, role)
+            }
+        }
+    }
+
+    /// The authority, by the document's sentence.
+    fn authority(&self, number: usize) -> u32 {
+        let capability = &self.register.capabilities[number];
+        let lent = (0..32).filter(|role| capability.lent >> role & 1 == 1);
+        lent.fold(capability.permissions, |joined, role| {
+            joined | self.register.roles[role as usize].permissions
+        })
+    }
+
+    /// The rules are kept; what is derived lies within what it is derived
+    /// from, directly and through others; climbs end in time.
+    fn assert_claims(&mut self) {
+        assert!(well_formed(&self.register));
+        assert_eq!(self.origins.len(), usize::from(self.register.count));
+        let authorities: Vec<u32> = (0..self.origins.len()).map(|n| self.authority(n)).collect();
+        for number in 0..self.origins.len() {
+            let lower = &self.register.capabilities[number];
+            let (uppers, role) = self.above(number);
+            for &upper in &uppers {
+                assert_eq!(authorities[number] & !authorities[upper], 0);
+                assert_within(lower, &self.register.capabilities[upper]);
+            }
+            self.assert_within_role(number, role, authorities[number]);
+            self.assert_lineage(number, &uppers, role);
+            self.tally.depth = self.tally.depth.max(uppers.len() + 1);
+        }
+    }
+
+    fn assert_within_role(&self, number: usize, role: usize, authority: u32) {
+        let lower = &self.register.capabilities[number];
+        let role = &self.register.roles[role];
+        assert!(role.founded);
+        assert_eq!(authority & !role.permissions, 0);
+        assert_eq!(lower.hours & !role.hours, 0);
+        assert_eq!(lower.places & !role.places, 0);
+        assert_eq!(lower.devices & !role.devices, 0);
+    }
+
+    /// The climb is the derivation; from pass n it reaches a founded role in
+    /// at most n + 1 steps.
+    fn assert_lineage(&self, number: usize, uppers: &[usize], role: usize) {
+        let lineage = self.register.lineage(number as u8);
+        let reached: Vec<usize> = lineage.capabilities.iter().map(|&n| n.into()).collect();
+        assert_eq!(reached[0], number);
+        assert_eq!(&reached[1..], uppers);
+        assert_eq!(usize::from(lineage.role), role);
+        assert!(reached.len() <= number + 1);
+    }
+
+    /// Every check by its claim: yes exactly when the user holds the pass and,
+    /// for every pass on the climb and the role, the permission is carried,
+    /// none is revoked and all are in life.
+    fn assert_checks(&mut self) {
+        let checks = all_checks(&self.register);
+        for (session, answers) in self.register.sessions.iter().zip(&checks) {
+            if !session.active {
+                assert_eq!(*answers, [Err(3); 32]);
+                continue;
+            }
+            let expected = match session.on {
+                Origin::Role(role) => self.appointed(role.into(), session.user),
+                Origin::Capability(number) => self.carried(number.into(), session.user),
+            };
+            let value = |permission: usize| Ok(u64::from(expected >> permission & 1));
+            assert_eq!(*answers, std::array::from_fn(value));
+            if self.is_deep(session.on) {
+                self.tally.deep_yes += u64::from(expected.count_ones());
+            }
+        }
+    }
+
+    /// Whether this is a pass cut from a pass.
+    fn is_deep(&self, on: Origin) -> bool {
+        let Origin::Capability(number) = on else {
+            return false;
+        };
+        matches!(self.origins[usize::from(number)], Origin::Capability(_))
+    }
+
+    /// The permissions of the role, if the user is still appointed.
+    fn appointed(&self, role: usize, user: u8) -> u32 {
+        let role = &self.register.roles[role];
+        match has(role.appointed, user) {
+            true => role.permissions,
+            false => 0,
+        }
+    }
+
+    /// The permissions which the third demand promises to the user of a
+    /// session on this pass.
+    fn carried(&self, number: usize, user: u8) -> u32 {
+        let (uppers, role) = self.above(number);
+        let mut carried = self.register.roles[role].permissions;
+        for at in uppers.into_iter().chain([number]) {
+            let capability = &self.register.capabilities[at];
+            let life = capability.first..=capability.last;
+            carried &= self.authority(at);
+            if capability.revoked || !life.contains(&self.register.clock) {
+                return 0;
+            }
+        }
+        match has(self.register.capabilities[number].holders, user) {
+            true => carried,
+            false => 0,
+        }
+    }
+
+    /// An accepted revoke marks exactly the unmarked passes from the named one
+    /// downward, and its value is their number; the checks that it changes are
+    /// exactly the yes answers of the sessions on those.
+    fn revoked(&mut self, named: usize, value: u64, before: &Register) {
+        let downward = |n: &usize| *n == named || self.above(*n).0.contains(&named);
+        let all: Vec<usize> = (0..self.origins.len()).filter(downward).collect();
+        let unmarked = |n: &&usize| !before.capabilities[**n].revoked;
+        let marked: Vec<usize> = all.iter().filter(unmarked).copied().collect();
+        let mut expected = before.clone();
+        marked.iter().for_each(|&n| expected.capabilities[n].revoked = true);
+        assert_eq!(self.register, expected);
+        assert_eq!(value, marked.len() as u64);
+        self.tally.wide_revokes += u64::from(marked.len() > 1);
+        self.tally.partial_revokes += u64::from(marked.len() < all.len());
+        self.assert_changed_checks(&marked, before);
+        self.assert_checks();
+    }
+
+    fn assert_changed_checks(&mut self, marked: &[usize], before: &Register) {
+        let (earlier, later) = (all_checks(before), all_checks(&self.register));
+        for (number, session) in before.sessions.iter().enumerate() {
+            let on_marked = session.active
+                && matches!(session.on, Origin::Capability(n) if marked.contains(&n.into()));
+            for permission in 0..32 {
+                let asked = (earlier[number][permission], later[number][permission]);
+                let yes_lost = on_marked && asked.0 == Ok(1);
+                assert_eq!(asked.0 != asked.1, yes_lost);
+                self.tally.changed_checks += u64::from(yes_lost);
+            }
+        }
+    }
+}
+
+/// The origin which an accepted create named.
+fn origin_of(named: Named) -> Origin {
+    match named {
+        Named::Role(number) => Origin::Role(number as u8),
+        Named::Capability(number) => Origin::Capability(number as u8),
+    }
+}
+
+/// Masks, life, limits, lent roles and the revoked mark.
+fn assert_within(lower: &Capability, upper: &Capability) {
+    assert_eq!(lower.lent & !upper.lent, 0);
+    assert_eq!(lower.hours & !upper.hours, 0);
+    assert_eq!(lower.places & !upper.places, 0);
+    assert_eq!(lower.devices & !upper.devices, 0);
+    assert!(upper.first <= lower.first && lower.last <= upper.last);
+    assert!(lower.use_limit <= upper.use_limit);
+    assert!(lower.creation_limit <= upper.creation_limit);
+    assert!(lower.hop_limit <= upper.hop_limit);
+    assert!(lower.revoked || !upper.revoked);
+}
+
+/// All 64 x 32 checks, asked of a copy which they must not change.
+fn all_checks(register: &Register) -> Checks {
+    let mut copy = register.clone();
+    let mut ask = |session: u64, permission: u64| {
+        apply_trusted(&mut copy, &Request::Check { session, permission })
+    };
+    let mut row = |session| std::array::from_fn(|permission| ask(session, permission as u64));
+    let checks = (0..64).map(&mut row).collect();
+    assert_eq!(copy, *register);
+    checks
+}

@@ -1,0 +1,140 @@
+//! The mission's third demand on random lists of calls.
+
+mod common;
+#[path = "common/monitor.rs"]
+mod monitor;
+
+use monitor::{Monitor, Tally};
+use reference::generate::{self, Profile};
+use reference::random::Random;
+use reference::request::WORDS;
+use reference::{encode, load, Register};
+
+/// So many lists of so many requests by the profile, each from a fresh
+/// register or, if `started`, from a random one.
+fn play(seed: u64, profile: &Profile, lists: u64, length: u64, started: bool) -> Tally {
+    let mut random = Random::new(seed);
+    let mut tally = Tally::default();
+    for _ in 0..lists {
+        let start = match started {
+            true => generate::register(&mut random),
+            false => Register::fresh(),
+        };
+        let mut monitor = Monitor::new(start, tally);
+        for _ in 0..length {
+            let request = generate::request(&mut random, &monitor.register, profile);
+            let _ = monitor.step(&request);
+        }
+        tally = monitor.tally;
+    }
+    tally
+}
+
+fn assert_accepted(tally: &Tally, least: u64) {
+    for (word, &accepted) in WORDS.iter().zip(&tally.accepted) {
+        assert!(accepted >= least, "{word} was accepted {accepted} times");
+    }
+}
+
+fn assert_refused(tally: &Tally, numbers: &[usize], least: u64) {
+    for &number in numbers {
+        let refused = tally.refused[number];
+        assert!(refused >= least, "{number} was answered {refused} times");
+    }
+}
+
+#[test]
+fn lists_of_few_users() {
+    let tally = play(1, &Profile::small(), 150, 800, false);
+    assert_accepted(&tally, 100);
+    assert_refused(&tally, &[2, 3, 4, 5, 6, 7, 8, 9, 10, 11, 13], 50);
+    assert!(tally.wide_revokes >= 50, "{tally:?}");
+    assert!(tally.partial_revokes >= 20, "{tally:?}");
+    assert!(tally.changed_checks >= 100, "{tally:?}");
+    assert!(tally.deep_yes >= 1_000, "{tally:?}");
+    assert!(tally.depth >= 8, "{tally:?}");
+}
+
+#[test]
+fn lists_that_fill_the_register() {
+    let tally = play(2, &Profile::crowded(), 40, 2_000, false);
+    assert_accepted(&tally, 10);
+    assert_refused(&tally, &[2, 3, 4, 5, 6, 7, 8, 9, 10, 11, 12, 13], 10);
+    assert!(tally.wide_revokes >= 10, "{tally:?}");
+}
+
+#[test]
+fn lists_of_long_chains() {
+    let tally = play(8, &Profile::deep(), 20, 2_000, false);
+    assert_accepted(&tally, 10);
+    assert!(tally.wide_revokes >= 20, "{tally:?}");
+    assert!(tally.changed_checks >= 100, "{tally:?}");
+    assert!(tally.depth >= 24, "{tally:?}");
+}
+
+#[test]
+fn lists_over_all_users_and_roles() {
+    let tally = play(3, &Profile::wide(), 20, 2_000, false);
+    assert_accepted(&tally, 10);
+    assert!(tally.wide_revokes >= 10, "{tally:?}");
+    assert!(tally.changed_checks >= 100, "{tally:?}");
+}
+
+#[test]
+fn lists_with_numbers_out_of_range() {
+    let tally = play(4, &Profile::wild(), 20, 600, false);
+    assert_accepted(&tally, 10);
+    assert_refused(&tally, &[2], 1_000);
+}
+
+/// From registers that no list of calls makes.
+#[test]
+fn lists_from_random_registers() {
+    let tally = play(5, &Profile::wide(), 100, 300, true);
+    assert_accepted(&tally, 10);
+    assert_refused(&tally, &[2, 3, 4, 5, 6, 7, 8, 9, 10, 11, 12, 13], 5);
+    assert!(tally.wide_revokes >= 30, "{tally:?}");
+    assert!(tally.changed_checks >= 100, "{tally:?}");
+}
+
+/// "In a list, same, save and a refused load leave the register as it is, and
+/// an accepted load starts the list anew from its image".
+#[test]
+fn lists_with_loads() {
+    let mut random = Random::new(6);
+    let (mut refused, mut accepted) = (0, 0);
+    let mut monitor = Monitor::new(Register::fresh(), Tally::default());
+    for _ in 0..12_000 {
+        let request = generate::request(&mut random, &monitor.register, &Profile::small());
+        let _ = monitor.step(&request);
+        if !random.chance(1, 40) {
+            continue;
+        }
+        let mut image = match random.chance(1, 8) {
+            true => encode(&generate::register(&mut random)),
+            false => encode(&monitor.register),
+        };
+        if random.chance(1, 2) {
+            generate::damage_image(&mut random, &mut image);
+        }
+        match load(&image) {
+            Ok(register) => {
+                accepted += 1;
+                monitor.load(register);
+            }
+            Err(number) => {
+                refused += 1;
+                assert_eq!(number, 14);
+            }
+        }
+    }
+    assert!(accepted >= 50 && refused >= 50, "{accepted}, {refused}");
+    assert!(monitor.tally.wide_revokes >= 10, "{:?}", monitor.tally);
+}
+
+/// The empty list: the start is all there is.
+#[test]
+fn the_empty_list() {
+    let tally = play(7, &Profile::small(), 20, 0, true);
+    assert_eq!(tally.accepted.iter().sum::<u64>(), 0);
+}
