@@ -3,14 +3,14 @@ use mathlib.Core.Path.{_≡_, refl, sym, ap, ap₂, _∙_, subst}
 use mathlib.Core.Logic.{_⊎_, inl, inr, _≢_}
 use mathlib.Core.Bool.{Bool, true, false, not, _&&_, _||_, xor, or-false}
 use Prim.Native.Nat.{ℕ, zero, suc, _+_, _*_, _/_, _%_, _^_, _≤_, _<_, min, max}
-use native.Mathlib.Nat.{div-eq-of-lt, lt-of-lt-of-le}
+use native.Mathlib.Nat.{div-eq-of-lt, lt-of-lt-of-le, one-mul}
 use native.Mathlib.Decide.{decLt}
 use native.Mathlib.Omega.{arith}
 use lib.Arith.{bin-ind}
 use lib.Bits.{bitAnd, bitOr, bitXor, differ, and-step, or-step, xor-step, and-shr, or-shr, xor-shr, and-zero-l, or-zero-r, and-le-r, or-lt}
 use lib.Count.{ones, onesIn, ones-step}
-use lib.Dec.{T, eqb, not-T, eqb→eq, eqb-refl, eqb·zero-suc, eqb·suc-zero, eqb·suc-suc}
-use lib.Pow.{shr-shr, pow-pos, pow-lt, pow-mono}
+use lib.Dec.{T, eqb, not-T, eqb→eq, eqb-refl, eqb·zero-suc, eqb·suc-zero, eqb·suc-suc, lit<}
+use lib.Pow.{shr-shr, pow-pos, pow-lt, pow-mono, shl-exact}
 use Rattle.masks.specs.Masks.{has, within, including, excluding}
 use Rattle.masks.proofs.Truth.{T→true, T→false, and-l, and-r, and-i, or-l, or-r, or-cases, same-test, eq→eqb, decided}
 
@@ -256,3 +256,12 @@ has-lt w m k l h = cases (decLt k w)
     cases (yes g) = g
     cases (no g) =
         absurd (subst (λ (x : ℕ). T (eqb (x % 2) 1)) (div-eq-of-lt (lt-of-lt-of-le l (pow-mono (omega arith)))) h)
+
+-- a mask of w bits has no item from w on
+pub no-bit : (w m k : ℕ) → m < 2 ^ w → w ≤ k → has m k ≡ false
+unfolding has
+no-bit w m k h l = rw (div-eq-of-lt (lt-of-lt-of-le h (pow-mono l)))
+
+-- the machine's `1 << k` at a width above k
+pub one-shl : (w k : ℕ) → k < w → (1 * 2 ^ k) % 2 ^ w ≡ 2 ^ k
+one-shl w k h = shl-exact {a = 1} 1 k w (lit< tt) (omega arith) ∙ one-mul (2 ^ k)
