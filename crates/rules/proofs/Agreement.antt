@@ -1,0 +1,169 @@
+-- The rules over what the sweep reads are the rules of the register, thing by thing.
+use mathlib.Core.Path.{_≡_, refl, ap, ap₂, _∙_}
+use mathlib.Core.Bool.{Bool, true, cond, _&&_}
+use mathlib.Core.List.{List, [], _∷_}
+use Prim.Native.Nat.{ℕ, _%_, _^_, _<_, _≤_}
+use native.Mathlib.Nat.{mod-eq-of-lt}
+use borrow.Author.Tests.{lt-ltb, eq-eqb}
+use lib.Bits.{bitOr}
+use lib.Dec.{T, eqb, leb, ltb, ltb→lt, leb→le}
+use lib.ListN.{getD, length}
+use Rattle.masks.specs.Masks.{has, within, joined}
+use Rattle.masks.specs.Tests.{each, allBelow, allFrom}
+use Rattle.masks.proofs.Truth.{Each, each-at}
+use Rattle.model.specs.declared.Origin.{Origin}
+use Rattle.model.specs.declared.Origin.the-variants.{Role as ofRole, Capability as ofCapability}
+use Rattle.model.specs.declared.Role.{Role}
+use Rattle.model.specs.declared.Capability.{Capability}
+use Rattle.model.specs.declared.Session.{Session}
+use Rattle.model.specs.declared.Register.{Register}
+use Rattle.model.specs.State.{Terms, terms, claims, below, exists, authority, lentAuthority, roleAuthority, admitted, inContext, roleAt, capabilityAt, sessionAt, blankRole, blankCapability, blankSession}
+use Rattle.model.specs.Lineage.{children}
+use Rattle.model.specs.Rules.{isOrigin, isUser, isDomain, bits, userKeeps, roleBlank, sameDomain, roleKeeps, capabilityBlank, rangeTests, inRange, allFounded, earlier, ownKeeps, capabilityKeeps, placeKeeps, sessionBlank, sessionKeeps, wellFormed}
+use Rattle.rules.specs.declared.limits.Limits.{Limits}
+use Rattle.rules.specs.Columns.{masked, isFounded, inDomain}
+use Rattle.rules.specs.Limits.{numberOf, limitsOf, asTerms, roleKeepsWith, placeWith, sessionKeepsWith}
+use Rattle.rules.proofs.Laws.{fromLeft, left-each, all-below, each-under, joined-same, within-masked}
+
+-- ---- origins: a role's number is below 32
+
+there-exists : (roles : List Role) (count : ℕ) (p : Capability) (o : Origin) (k a : ℕ) → k ≡ numberOf o → T (isOrigin o)
+    → (limitsOf o count (roleAt roles (k % 32)) p a) .there ≡ exists roles count o
+unfolding exists
+there-exists roles count p (ofRole j) k a e h =
+    let l : j < 32 = ltb→lt j 32 h in
+    rw (e, mod-eq-of-lt l, lt-ltb j 32 l)
+there-exists roles count p (ofCapability j) k a e h = refl
+
+limits-terms : (roles : List Role) (count : ℕ) (cs : List Capability) (o : Origin) (k a : ℕ) → k ≡ numberOf o → T (isOrigin o)
+    → a ≡ authority roles (capabilityAt cs k)
+    → asTerms (limitsOf o count (roleAt roles (k % 32)) (capabilityAt cs k) a) ≡ terms roles cs o
+unfolding terms roleAuthority
+limits-terms roles count cs (ofRole j) k a e h f =
+    let l : j < 32 = ltb→lt j 32 h in
+    rw (e, mod-eq-of-lt l)
+limits-terms roles count cs (ofCapability j) k a e h f = rw (f, e)
+
+limits-admit : (roles : List Role) (count : ℕ) (cs : List Capability) (o : Origin) (k hour place device : ℕ) → k ≡ numberOf o → T (isOrigin o)
+    → admitted (asTerms (limitsOf o count (roleAt roles (k % 32)) (capabilityAt cs k) 0)) hour place device ≡ admitted (terms roles cs o) hour place device
+unfolding admitted terms
+limits-admit roles count cs (ofRole j) k hour place device e h =
+    let l : j < 32 = ltb→lt j 32 h in
+    rw (e, mod-eq-of-lt l)
+limits-admit roles count cs (ofCapability j) k hour place device e h = rw e
+
+-- ---- a role; users has the users of each domain
+
+pub role-agrees : (enrolled : ℕ) (domains users : List ℕ) (k : ℕ) (x : Role) → ((d : ℕ) → d < 8 → getD users d 0 ≡ masked (inDomain domains d) 64)
+    → roleKeepsWith enrolled (getD users (x .domain % 8) 0) x ≡ roleKeeps enrolled domains k x
+unfolding roleKeeps sameDomain
+role-agrees enrolled domains users k x column =
+    ap (λ (b : Bool). cond (x .founded) b (roleBlank x)) (each-under before (within (x .appointed) (getD users (x .domain % 8) 0) ∷ []) (sameDomain domains x ∷ []) agree)
+  where
+    before : List Bool
+    before =
+        isDomain (x .domain)
+        ∷ bits 32 (x .permissions)
+        ∷ bits 24 (x .hours)
+        ∷ bits 16 (x .places)
+        ∷ bits 16 (x .devices)
+        ∷ bits 64 (x .appointed)
+        ∷ within (x .appointed) enrolled
+        ∷ []
+
+    agree : Each before → each (within (x .appointed) (getD users (x .domain % 8) 0) ∷ []) ≡ each (sameDomain domains x ∷ [])
+    agree h =
+        let l : x .domain < 8 = ltb→lt (x .domain) 8 (h .0) in
+        ap (λ (b : Bool). b && true)
+        (ap (within (x .appointed)) (ap (λ (d : ℕ). getD users d 0) (mod-eq-of-lt l) ∙ column (x .domain) l)
+        ∙ within-masked (inDomain domains (x .domain)) 64 (x .appointed) (ltb→lt _ _ (h .1 .1 .1 .1 .1 .0)))
+
+-- ---- a capability
+
+pub place-agrees : (enrolled : ℕ) (roles : List Role) (count : ℕ) (cs : List Capability) (n k founded lent made : ℕ) (f : ℕ → ℕ) (u : Limits) → k ≡ numberOf ((capabilityAt cs n) .origin)
+    → founded ≡ masked (isFounded roles) 32
+    → ((j : ℕ) → j < 32 → f j ≡ roleAuthority roles j)
+    → lent ≡ joined f ((capabilityAt cs k) .lent) 32
+    → u ≡ limitsOf ((capabilityAt cs n) .origin) count (roleAt roles (k % 32)) (capabilityAt cs k) (bitOr ((capabilityAt cs k) .permissions) lent)
+    → made ≡ children count cs n
+    → placeWith enrolled founded count n u made (capabilityAt cs n) ≡ placeKeeps enrolled roles count cs n (capabilityAt cs n)
+unfolding placeWith placeKeeps capabilityKeeps inRange allFounded authority lentAuthority
+place-agrees enrolled roles count cs n k founded lent made f u at-k at-founded column at-lent at-u at-made =
+    ap
+    (λ (b : Bool). cond (ltb n count) b (capabilityBlank c))
+    (each-under (inRange c ∷ []) (rest (within (c .lent) founded) (u .there) (asTerms u) made) (rest (allFounded roles (c .lent)) (exists roles count (c .origin)) (terms roles cs (c .origin)) (children count cs n)) agree)
+  where
+    c : Capability
+    c = capabilityAt cs n
+
+    p : Capability
+    p = capabilityAt cs k
+
+    rest : Bool → Bool → Terms → ℕ → List Bool
+    rest a b t m =
+        a ∷ b ∷ earlier n (c .origin) ∷ below (claims c) t ∷ eqb (c .creations) m ∷ leb (c .creations) (c .«creation_limit») ∷ ownKeeps enrolled c ∷ []
+
+    agree : Each (inRange c ∷ [])
+        → each (rest (within (c .lent) founded) (u .there) (asTerms u) made) ≡ each (rest (allFounded roles (c .lent)) (exists roles count (c .origin)) (terms roles cs (c .origin)) (children count cs n))
+    agree h =
+        let named : T (isOrigin (c .origin)) = each-at (rangeTests c) (h .0) 0 in
+        let carried : bitOr (p .permissions) lent ≡ authority roles p = ap (bitOr (p .permissions)) (at-lent ∙ joined-same f (roleAuthority roles) (p .lent) 32 column) in
+        ap₂ (λ (a b : Bool). each (rest a b (asTerms u) made))
+        (ap (within (c .lent)) at-founded ∙ within-masked (isFounded roles) 32 (c .lent) (ltb→lt _ _ (each-at (rangeTests c) (h .0) 3)))
+        (ap (λ (v : Limits). v .there) at-u ∙ there-exists roles count p (c .origin) k _ at-k named)
+        ∙ ap₂ (λ (t : Terms) (m : ℕ). each (rest (allFounded roles (c .lent)) (exists roles count (c .origin)) t m))
+        (ap asTerms at-u ∙ limits-terms roles count cs (c .origin) k _ at-k named carried)
+        at-made
+
+-- ---- a session
+
+pub session-agrees : (enrolled : ℕ) (roles : List Role) (count : ℕ) (cs : List Capability) (i k : ℕ) (s : Session) (u : Limits) → k ≡ numberOf (s .on)
+    → u ≡ limitsOf (s .on) count (roleAt roles (k % 32)) (capabilityAt cs k) 0
+    → sessionKeepsWith enrolled u s ≡ sessionKeeps enrolled roles count cs i s
+unfolding sessionKeepsWith sessionKeeps
+session-agrees enrolled roles count cs i k s u at-k at-u =
+    ap (λ (b : Bool). cond (s .active) b (sessionBlank s)) (each-under before (u .there ∷ admitted (asTerms u) (s .hour) (s .place) (s .device) ∷ []) (exists roles count (s .on) ∷ admitted (terms roles cs (s .on)) (s .hour) (s .place) (s .device) ∷ []) agree)
+  where
+    before : List Bool
+    before = isUser (s .user) ∷ isOrigin (s .on) ∷ inContext (s .hour) (s .place) (s .device) ∷ has enrolled (s .user) ∷ []
+
+    agree : Each before → each (u .there ∷ admitted (asTerms u) (s .hour) (s .place) (s .device) ∷ []) ≡ each (exists roles count (s .on) ∷ admitted (terms roles cs (s .on)) (s .hour) (s .place) (s .device) ∷ [])
+    agree h =
+        ap (λ (v : Limits). each (v .there ∷ admitted (asTerms v) (s .hour) (s .place) (s .device) ∷ [])) at-u
+        ∙ ap₂ (λ (a b : Bool). each (a ∷ b ∷ []))
+        (there-exists roles count (capabilityAt cs k) (s .on) k 0 at-k (h .1 .0))
+        (limits-admit roles count cs (s .on) k (s .hour) (s .place) (s .device) at-k (h .1 .0))
+
+-- ---- the register
+
+pub register-agrees : (r : Register) (users roles capabilities sessions : Bool) → r .clock < 2 ^ 32
+    → r .enrolled < 2 ^ 64
+    → length (r .domains) ≡ 64
+    → length (r .roles) ≡ 32
+    → length (r .capabilities) ≡ 256
+    → length (r .sessions) ≡ 64
+    → users ≡ allBelow 64 (λ u. userKeeps (r .enrolled) u (getD (r .domains) u 0))
+    → roles ≡ allBelow 32 (λ k. roleKeeps (r .enrolled) (r .domains) k (roleAt (r .roles) k))
+    → (r .count ≤ 256 → capabilities ≡ allBelow 256 (λ n. placeKeeps (r .enrolled) (r .roles) (r .count) (r .capabilities) n (capabilityAt (r .capabilities) n)))
+    → sessions ≡ allBelow 64 (λ n. sessionKeeps (r .enrolled) (r .roles) (r .count) (r .capabilities) n (sessionAt (r .sessions) n))
+    → fromLeft (leb (r .count) 256 ∷ users ∷ roles ∷ capabilities ∷ sessions ∷ []) ≡ wellFormed r
+unfolding wellFormed
+register-agrees r users roles capabilities sessions lk le la lb lc ld at-users at-roles at-capabilities at-sessions =
+    left-each (leb (r .count) 256 ∷ users ∷ roles ∷ capabilities ∷ sessions ∷ [])
+    ∙ each-under (leb (r .count) 256 ∷ []) (users ∷ roles ∷ capabilities ∷ sessions ∷ []) after agree
+    ∙ rw (lt-ltb (r .clock) (2 ^ 32) lk, lt-ltb (r .enrolled) (2 ^ 64) le, eq-eqb _ _ la, eq-eqb _ _ lb, eq-eqb _ _ lc, eq-eqb _ _ ld)
+  where
+    after : List Bool
+    after =
+        allFrom (userKeeps (r .enrolled)) 0 (r .domains)
+        ∷ allFrom (roleKeeps (r .enrolled) (r .domains)) 0 (r .roles)
+        ∷ allFrom (placeKeeps (r .enrolled) (r .roles) (r .count) (r .capabilities)) 0 (r .capabilities)
+        ∷ allFrom (sessionKeeps (r .enrolled) (r .roles) (r .count) (r .capabilities)) 0 (r .sessions)
+        ∷ []
+
+    agree : Each (leb (r .count) 256 ∷ []) → each (users ∷ roles ∷ capabilities ∷ sessions ∷ []) ≡ each after
+    agree h =
+        ap₂ _&&_ (at-users ∙ all-below (userKeeps (r .enrolled)) (r .domains) 0 64 la)
+        (ap₂ _&&_ (at-roles ∙ all-below (roleKeeps (r .enrolled) (r .domains)) (r .roles) blankRole 32 lb)
+        (ap₂ _&&_ (at-capabilities (leb→le _ _ (h .0)) ∙ all-below (placeKeeps (r .enrolled) (r .roles) (r .count) (r .capabilities)) (r .capabilities) blankCapability 256 lc)
+        (ap (λ (b : Bool). b && true) (at-sessions ∙ all-below (sessionKeeps (r .enrolled) (r .roles) (r .count) (r .capabilities)) (r .sessions) blankSession 64 ld))))

@@ -1,0 +1,151 @@
+-- Laws that know nothing of the register.
+use mathlib.Core.Path.{_≡_, refl, ap, ap₂, _∙_, sym, subst}
+use mathlib.Core.Logic.{_⊎_, inl, inr}
+use mathlib.Core.Bool.{Bool, true, false, cond, not, _&&_, _||_, and-true, and-false, and-assoc, or-false}
+use mathlib.Core.List.{List, [], _∷_, _++_}
+use Prim.Native.Nat.{ℕ, zero, suc, _+_, _*_, _%_, _^_, _<_, _≤_}
+use native.Mathlib.Nat.{one-mul, div-eq-of-lt, lt-of-lt-of-le}
+use native.Mathlib.Decide.{decLt}
+use native.Mathlib.Numerals.{add-one}
+use native.Mathlib.Omega.{arith}
+use borrow.Author.Count.{below-more}
+use borrow.Author.Tests.{lt-ltb, le-ltb, eq-eqb, eqb-false}
+use lib.Bits.{bitOr}
+use lib.Dec.{T, not-T, lit<, eqb, ltb, eqb→eq, eqb-refl, lt→ltb}
+use lib.ListN.{length, getD, set}
+use lib.Pow.{shl-exact, pow-mono}
+use lib.Seq.{getD-set-same, getD-set-other}
+use Rattle.masks.specs.Masks.{has, within, joined}
+use Rattle.masks.specs.Tests.{each, implies, allBelow, allFrom}
+use Rattle.masks.proofs.Truth.{Each, T→false, and-r, and-i, implies-i, implies-e, decided, same-test}
+use Rattle.masks.proofs.Bounded.{allBelow-at, allBelow-i, all-at, all-i}
+use Rattle.masks.proofs.MaskLaws.{has-zero, has-or, has-single, has-lt, within-refl, within-le, within-has, has-within}
+use Rattle.masks.proofs.JoinLaws.{joined-least, joined-has}
+use Rattle.rules.specs.Columns.{masked}
+
+-- ---- machine numbers
+
+-- the machine's `1 << k` at a width w above k
+pub one-shl : (w k : ℕ) → k < w → (1 * 2 ^ k) % 2 ^ w ≡ 2 ^ k
+one-shl w k h = shl-exact {a = 1} 1 k w (lit< tt) (omega arith) ∙ one-mul (2 ^ k)
+
+-- a mask below 2 ^ w has no item from w on
+pub no-bit : (w m k : ℕ) → m < 2 ^ w → w ≤ k → has m k ≡ false
+unfolding has
+no-bit w m k h l = rw (div-eq-of-lt (lt-of-lt-of-le h (pow-mono l)))
+
+-- ---- tests
+
+-- a choice by a test whose outcome is known
+pub cond-true : {A : Type 0} {t : Bool} (a b : A) → t ≡ true → cond t a b ≡ a
+cond-true a b e = rw e
+
+pub cond-false : {A : Type 0} {t : Bool} (a b : A) → t ≡ false → cond t a b ≡ b
+cond-false a b e = rw e
+
+-- tests joined from the left, as code joins them
+abbrev pub joinedWith : Bool → List Bool → Bool
+joinedWith a [] = a
+joinedWith a (t ∷ ts) = joinedWith (a && t) ts
+
+joined-each : (a : Bool) (ts : List Bool) → joinedWith a ts ≡ (a && each ts)
+joined-each a [] = sym (and-true a)
+joined-each a (t ∷ ts) = joined-each (a && t) ts ∙ and-assoc a t (each ts)
+
+abbrev pub fromLeft : List Bool → Bool
+fromLeft [] = true
+fromLeft (t ∷ ts) = joinedWith t ts
+
+pub left-each : (ts : List Bool) → fromLeft ts ≡ each ts
+left-each [] = refl
+left-each (t ∷ ts) = joined-each t ts
+
+-- tests that agree where those before them pass
+pub each-under : (ts us vs : List Bool) → (Each ts → each us ≡ each vs) → each (ts ++ us) ≡ each (ts ++ vs)
+each-under [] us vs h = h tt
+each-under (true ∷ ts) us vs h = each-under ts us vs (λ g. h (tt, g))
+each-under (false ∷ ts) us vs h = refl
+
+-- ---- loops: one number more, or one that fails
+
+pub all-fails : (n k : ℕ) (p : ℕ → Bool) → k < n → p k ≡ false → false ≡ allBelow n p
+all-fails n k p l e = sym (T→false (allBelow n p) (not-T (allBelow n p) (λ t. subst T e (allBelow-at n p t k l))))
+
+pub all-more : (n : ℕ) (p : ℕ → Bool) {x y : Bool} → x ≡ allBelow n p → y ≡ (x && p n) → y ≡ allBelow (n + 1) p
+unfolding allBelow
+all-more n p e f = rw add-one (f ∙ ap (λ (b : Bool). b && p n) e)
+
+pub masked-more : (n : ℕ) (p : ℕ → Bool) {x y : ℕ} → x ≡ masked p n → y ≡ bitOr x (cond (p n) (2 ^ n) 0) → y ≡ masked p (n + 1)
+unfolding masked
+masked-more n p e f = rw add-one (f ∙ ap (λ (m : ℕ). bitOr m (cond (p n) (2 ^ n) 0)) e)
+
+pub joined-more : (n m : ℕ) (f : ℕ → ℕ) {x y : ℕ} → x ≡ joined f m n → y ≡ bitOr x (cond (has m n) (f n) 0) → y ≡ joined f m (n + 1)
+unfolding joined
+joined-more n m f e g = rw add-one (g ∙ ap (λ (x : ℕ). bitOr x (cond (has m n) (f n) 0)) e)
+
+-- the masks of the items go by the masks below n
+pub joined-same : (f g : ℕ → ℕ) (m n : ℕ) → ((k : ℕ) → k < n → f k ≡ g k) → joined f m n ≡ joined g m n
+unfolding joined
+joined-same f g m zero h = refl
+joined-same f g m (suc n) h =
+    ap₂ (λ (x y : ℕ). bitOr x (cond (has m n) y 0)) (joined-same f g m n (λ k l. h k (omega arith))) (h n (omega arith))
+
+-- of no item, and of one
+pub joined-none : (f : ℕ → ℕ) (n : ℕ) → joined f 0 n ≡ 0
+joined-none f n =
+    omega (arith, within-le (joined f 0 n) 0 (joined-least f 0 n 0 (λ k l t. absurd (subst T (has-zero k) t))))
+
+pub joined-one : (f : ℕ → ℕ) (j n : ℕ) → j < n → joined f (2 ^ j) n ≡ f j
+joined-one f j n g =
+    omega (
+      arith,
+      within-le (joined f (2 ^ j) n) (f j) (joined-least f (2 ^ j) n (f j) (λ k l t. subst (λ (x : ℕ). T (within (f k) (f x))) (eqb→eq k j (subst T (has-single j k) t)) (within-refl (f k)))),
+      within-le (f j) (joined f (2 ^ j) n) (joined-has f (2 ^ j) n j g (subst T (sym (has-single j j)) (eqb-refl j))),
+    )
+
+-- a column, filled one place further
+pub column-more : (f : ℕ → ℕ) (l : List ℕ) (i v : ℕ) → i < length l → ((k : ℕ) → k < i → getD l k 0 ≡ f k) → v ≡ f i
+    → (k : ℕ) → k < i + 1 → getD (set l i v) k 0 ≡ f k
+column-more f l i v h p e =
+    below-more (λ k. getD (set l i v) k 0 ≡ f k) i
+    (λ k b. getD-set-other l i k v 0 (λ z. absurd (omega arith)) ∙ p k b)
+    (getD-set-same l i v 0 h ∙ e)
+
+-- ---- lists and masks
+
+-- a test of every item of a list, by number
+pub all-below : {A : Type 0} (p : ℕ → A → Bool) (l : List A) (d : A) (n : ℕ) → length l ≡ n → allBelow n (λ i. p i (getD l i d)) ≡ allFrom p 0 l
+all-below p l d n e =
+    same-test _ _
+    (λ h. all-i p l d (λ i g. allBelow-at n (λ i. p i (getD l i d)) h i (omega arith)))
+    (λ h. allBelow-i n (λ i. p i (getD l i d)) (λ i g. all-at p l d h i (omega arith)))
+
+-- the items of a mask of tests
+has-masked : (p : ℕ → Bool) (n k : ℕ) → has (masked p n) k ≡ (ltb k n && p k)
+unfolding masked
+has-masked p zero k = has-zero k ∙ ap (λ (b : Bool). b && p k) (sym (le-ltb k zero (omega arith)))
+has-masked p (suc n) k = has-or (masked p n) _ k ∙ ap₂ _||_ (has-masked p n k) (last (p n) refl) ∙ cases (decided (eqb k n))
+  where
+    last : (b : Bool) → p n ≡ b → has (cond b (2 ^ n) 0) k ≡ (eqb k n && b)
+    last true e = has-single n k ∙ sym (and-true (eqb k n))
+    last false e = has-zero k ∙ sym (and-false (eqb k n))
+
+    cases : T (eqb k n) ⊎ T (not (eqb k n)) → ((ltb k n && p k) || (eqb k n && p n)) ≡ (ltb k (suc n) && p k)
+    cases (inl e) =
+        let z : k ≡ n = eqb→eq k n e in
+        rw (z, le-ltb n n (omega arith), lt-ltb n (suc n) (omega arith), eq-eqb n n refl)
+    cases (inr e) =
+        rw (T→false (eqb k n) e, or-false (ltb k n && p k)) (ap (λ (b : Bool). b && p k) (split (decLt k n)))
+      where
+        split : Dec (k < n) → ltb k n ≡ ltb k (suc n)
+        split (yes g) = lt-ltb k n g ∙ sym (lt-ltb k (suc n) (omega arith))
+        split (no g) = le-ltb k n (omega arith) ∙ sym (le-ltb k (suc n) (omega (arith, eqb-false k n (T→false (eqb k n) e))))
+
+-- every item of a mask of n bits passes, by one operation on masks
+pub within-masked : (p : ℕ → Bool) (n m : ℕ) → m < 2 ^ n → within m (masked p n) ≡ allBelow n (λ k. implies (has m k) (p k))
+within-masked p n m small =
+    same-test _ _
+    (λ h. allBelow-i n _ (λ k l. implies-i (has m k) (p k) (λ t. and-r (ltb k n) (p k) (subst T (has-masked p n k) (within-has m (masked p n) h k t)))))
+    (λ h. has-within m (masked p n) (λ k t.
+    let l : k < n = has-lt n m k small t in
+    subst T (sym (has-masked p n k)) (and-i (ltb k n) (p k) (lt→ltb k n l) (implies-e (has m k) (p k) (allBelow-at n (λ k. implies (has m k) (p k)) h k l) t))))

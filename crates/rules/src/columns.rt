@@ -1,0 +1,130 @@
+// Tables and masks that the sweep makes once.
+ghost use mathlib.Core.Path.{_≡_};
+ghost use Prim.Native.Nat.{ℕ, _<_, _≤_};
+ghost use lib.ListN.{getD};
+ghost use Rattle.masks.specs.Masks.{joined};
+ghost use Rattle.model.specs.State.{roleAt};
+ghost use Rattle.rules.specs.Columns.{masked, isFounded, inDomain, bumped, tally};
+ghost use Rattle.rules.specs.Limits.{numberOf};
+use crate::bits::gained;
+use crate::bits::single;
+use model::Origin;
+use model::Register;
+use model::Role;
+
+// The permissions of each role.
+pub fn role_permissions(roles: [Role; 32]) -> [u32; 32]
+    ensures { λ q. ⌜ ((k : ℕ) → k < 32 → getD q k 0 ≡ roleAt roles k .permissions) ⌝ }
+{
+    let mut column = [0u32; 32];
+    let mut i: usize = 0;
+    while i < 32 {
+        let role = roles[i];
+        column[i] = role.permissions;
+        i = i + 1;
+    }
+    column
+}
+
+// The roles that are founded.
+pub fn founded_roles(roles: [Role; 32]) -> u64
+    ensures { λ q. ⌜ q ≡ masked (isFounded roles) 32 ⌝ }
+{
+    let mut mask: u64 = 0;
+    let mut i: usize = 0;
+    while i < 32 {
+        let role = roles[i];
+        mask = mask | single(role.founded, i);
+        i = i + 1;
+    }
+    mask
+}
+
+// The permissions of the roles of any mask; permissions has those of each role.
+pub fn all_lent(permissions: &[u32; 32], mask: u32) -> u32
+    ensures { λ q. ⌜ q ≡ joined (λ k. getD (now (permissions .entry)) k 0) mask 32 ⌝ }
+{
+    let mut sum: u32 = 0;
+    let mut i: usize = 0;
+    while i < 32 {
+        sum = sum | gained(permissions[i], mask, i);
+        i = i + 1;
+    }
+    sum
+}
+
+// The same, quickly where at most one role is lent, as in every register that keeps the rules.
+pub fn lent_authority(permissions: &[u32; 32], mask: u32) -> u32
+    ensures { λ q. ⌜ q ≡ joined (λ k. getD (now (permissions .entry)) k 0) mask 32 ⌝ }
+{
+    let k = (u32::trailing_zeros(mask) % 32) as usize;
+    if mask == 0 {
+        0
+    } else if mask == 1 << k {
+        permissions[k]
+    } else {
+        all_lent(permissions, mask)
+    }
+}
+
+// The users of domain d.
+pub fn users_of(domains: &[u8; 64], d: u8) -> u64
+    ensures { λ q. ⌜ q ≡ masked (inDomain (now (domains .entry)) d) 64 ⌝ }
+{
+    let mut mask: u64 = 0;
+    let mut i: usize = 0;
+    while i < 64 {
+        mask = mask | single(domains[i] == d, i);
+        i = i + 1;
+    }
+    mask
+}
+
+// The users of each domain.
+pub fn domain_users(domains: &[u8; 64]) -> [u64; 8]
+    ensures { λ q. ⌜ ((d : ℕ) → d < 8 → getD q d 0 ≡ masked (inDomain (now (domains .entry)) d) 64) ⌝ }
+{
+    let mut table = [0u64; 8];
+    let mut d: u8 = 0;
+    while d < 8 {
+        table[d as usize] = users_of(domains, d);
+        d = d + 1;
+    }
+    table
+}
+
+// One capability more, with the origin o.
+pub fn bump(table: &mut [u16; 256], o: Origin)
+    requires { ⌜ getD (now table) (numberOf o) 0 < 256 ⌝ }
+    ensures { λ _. ⌜ now (table .exit) ≡ bumped (now (table .entry)) o ⌝ }
+{
+    match o {
+        Origin::Role(_) => {}
+        Origin::Capability(k) => {
+            table[k as usize] = table[k as usize] + 1;
+        }
+    }
+}
+
+// The count of capabilities, at most the number of places.
+pub fn places(count: u16) -> usize
+    ensures { λ q. ⌜ (q ≤ 256) × (count ≤ 256 → q ≡ count) ⌝ }
+{
+    if count <= 256 { count as usize } else { 256 }
+}
+
+// How many capabilities were created from each.
+pub fn children_table(r: Register) -> [u16; 256]
+    ensures { λ q. ⌜ (r .count ≤ 256 → q ≡ tally (r .capabilities) (r .count)) ⌝ }
+{
+    let bound = places(r.count);
+    let mut table = [0u16; 256];
+    let mut i: usize = 0;
+    while i < bound {
+        let c = r.capabilities[i];
+        let o = c.origin;
+        bump(&mut table, o);
+        i = i + 1;
+    }
+    table
+}
