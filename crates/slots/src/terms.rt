@@ -1,0 +1,91 @@
+// What an origin allows, a role or a capability alike.
+ghost use mathlib.Core.Path.{_≡_};
+ghost use mathlib.Core.Bool.{cond};
+ghost use Prim.Native.Nat.{_<_};
+ghost use lib.ListN.{getD};
+ghost use Rattle.masks.specs.Masks.{has, joined};
+ghost use Rattle.slots.specs.Terms.{termsIn, slotTerms, namedIn};
+use masks::bit32;
+use masks::member;
+use model::Capability;
+use model::Named;
+use model::Origin;
+use model::Role;
+
+pub struct Allowance {
+    pub grants: u32,
+    pub lendable: u32,
+    pub hours: u32,
+    pub places: u16,
+    pub devices: u16,
+    pub first: u32,
+    pub last: u32,
+    pub use_limit: u16,
+    pub creation_limit: u16,
+    pub hop_limit: u16,
+    pub revoked: bool,
+}
+
+// What a role with the permissions p adds where the mask has item k.
+pub fn gained(p: u32, mask: u32, k: u32) -> u32
+    ensures { λ q. ⌜ q ≡ cond (has mask k) p 0 ⌝ }
+{
+    if member(mask as u64, k) { p } else { 0 }
+}
+
+// The permissions of the roles of a mask, joined; the column has those of each role.
+pub fn lent(permissions: &[u32; 32], mask: u32) -> u32
+    ensures { λ q. ⌜ q ≡ joined (λ k. getD (now (permissions .entry)) k 0) mask 32 ⌝ }
+{
+    let mut sum: u32 = 0;
+    let mut i: usize = 0;
+    while i < 32 {
+        sum = sum | gained(permissions[i], mask, i as u32);
+        i = i + 1;
+    }
+    sum
+}
+
+// The terms of a role x, or of a capability c whose lent roles have the permissions `lent`.
+pub fn allowance_of(o: Origin, x: Role, c: Capability, lent: u32) -> Allowance
+    ensures { λ q. ⌜ termsIn q ≡ slotTerms o x c lent ⌝ }
+{
+    match o {
+        Origin::Role(k) => Allowance {
+            grants: x.permissions,
+            lendable: bit32(k as u32 % 32),
+            hours: x.hours,
+            places: x.places,
+            devices: x.devices,
+            first: 0,
+            last: 4294967295,
+            use_limit: 65535,
+            creation_limit: 65535,
+            hop_limit: 65535,
+            revoked: false,
+        },
+        Origin::Capability(n) => Allowance {
+            grants: c.permissions | lent,
+            lendable: c.lent,
+            hours: c.hours,
+            places: c.places,
+            devices: c.devices,
+            first: c.first,
+            last: c.last,
+            use_limit: c.use_limit,
+            creation_limit: c.creation_limit,
+            hop_limit: c.hop_limit,
+            revoked: c.revoked,
+        },
+    }
+}
+
+// The origin that a request names, its number brought into the range.
+pub fn origin_named(o: Named) -> Origin
+    ensures { λ q. ⌜ q ≡ namedIn o ⌝ }
+{
+    match o {
+        Named::Role(k) => Origin::Role((k % 32) as u8),
+        Named::Capability(n) => Origin::Capability((n % 256) as u8),
+    }
+}
