@@ -1,0 +1,2 @@
+-- The elements that a request names, and where they stand.
+pub mod Requests

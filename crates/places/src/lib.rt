@@ -1,0 +1,188 @@
+// Where the elements stand that a request names: numbers from the request, or followed from what was read.
+ghost use mathlib.Core.Path.{_≡_};
+ghost use Rattle.places.specs.Requests.{taskOf, namesWith, roleIn, capabilityIn, namesOf, roleHeld, capabilityHeld, capabilityPlace, rolePlace, parentPlace};
+use model::Change;
+use model::Named;
+use model::Origin;
+use model::Request;
+
+// What the places that a request leaves open are followed from: nothing, the capability's origin, what the session is on,
+// or the count, where the new capability goes.
+pub enum Follow {
+    Nothing,
+    Origin,
+    Session,
+    Count,
+}
+
+// The numbers that a request names, of any size; 0 for what it does not name.
+pub struct Names {
+    pub user: u32,
+    pub role: u32,
+    pub parent: u32,
+    pub capability: u32,
+    pub session: u32,
+    pub follow: Follow,
+}
+
+// A request that changes only elements that it names, or one that reads or changes the whole tree.
+pub enum Task {
+    One(Request),
+    Withdraw(u32, u32),
+    Amend(u32, u32, Change),
+    Revoke(u32, u32),
+    Same(u32, u32),
+}
+
+pub fn task_of(q: Request) -> Task
+    ensures { λ z. ⌜ z ≡ taskOf q ⌝ }
+{
+    match q {
+        Request::Withdraw(role, permission) => Task::Withdraw(role, permission),
+        Request::Amend(user, capability, change) => Task::Amend(user, capability, change),
+        Request::Revoke(user, capability) => Task::Revoke(user, capability),
+        Request::Same(m, n) => Task::Same(m, n),
+        Request::Enrol(_, _) => Task::One(q),
+        Request::Found(_, _, _, _, _) => Task::One(q),
+        Request::Grant(_, _) => Task::One(q),
+        Request::Appoint(_, _) => Task::One(q),
+        Request::Dismiss(_, _) => Task::One(q),
+        Request::Clock(_) => Task::One(q),
+        Request::Create(_, _, _, _) => Task::One(q),
+        Request::Allow(_, _, _) => Task::One(q),
+        Request::Lend(_, _, _) => Task::One(q),
+        Request::Hand(_, _, _) => Task::One(q),
+        Request::Open(_, _, _, _) => Task::One(q),
+        Request::Check(_, _) => Task::One(q),
+        Request::Close(_) => Task::One(q),
+    }
+}
+
+pub fn named_by(
+    user: u32,
+    role: u32,
+    parent: u32,
+    capability: u32,
+    session: u32,
+    follow: Follow,
+) -> Names
+    ensures { λ z. ⌜ z ≡ namesWith user role parent capability session follow ⌝ }
+{
+    Names {
+        user: user,
+        role: role,
+        parent: parent,
+        capability: capability,
+        session: session,
+        follow: follow,
+    }
+}
+
+// The number of the role, or of the capability, that is named; 0 if it is the other.
+pub fn role_in(o: Named) -> u32
+    ensures { λ z. ⌜ z ≡ roleIn o ⌝ }
+{
+    match o {
+        Named::Role(k) => k,
+        Named::Capability(_) => 0,
+    }
+}
+
+pub fn capability_in(o: Named) -> u32
+    ensures { λ z. ⌜ z ≡ capabilityIn o ⌝ }
+{
+    match o {
+        Named::Role(_) => 0,
+        Named::Capability(n) => n,
+    }
+}
+
+pub fn names_of(q: Request) -> Names
+    ensures { λ z. ⌜ z ≡ namesOf q ⌝ }
+{
+    match q {
+        Request::Enrol(user, _) => named_by(user, 0, 0, 0, 0, Follow::Nothing),
+        Request::Found(role, _, _, _, _) => named_by(0, role, 0, 0, 0, Follow::Nothing),
+        Request::Grant(role, _) => named_by(0, role, 0, 0, 0, Follow::Nothing),
+        Request::Withdraw(_, _) => named_by(0, 0, 0, 0, 0, Follow::Nothing),
+        Request::Appoint(user, role) => named_by(user, role, 0, 0, 0, Follow::Nothing),
+        Request::Dismiss(user, role) => named_by(user, role, 0, 0, 0, Follow::Nothing),
+        Request::Clock(_) => named_by(0, 0, 0, 0, 0, Follow::Nothing),
+        Request::Create(_, o, _, _) => named_by(
+            0,
+            role_in(o),
+            capability_in(o),
+            0,
+            0,
+            Follow::Count,
+        ),
+        Request::Allow(_, n, _) => named_by(0, 0, 0, n, 0, Follow::Origin),
+        Request::Lend(_, n, _) => named_by(0, 0, 0, n, 0, Follow::Origin),
+        Request::Hand(_, _, n) => named_by(0, 0, 0, n, 0, Follow::Nothing),
+        Request::Open(session, _, o, _) => named_by(
+            0,
+            role_in(o),
+            0,
+            capability_in(o),
+            session,
+            Follow::Nothing,
+        ),
+        Request::Check(session, _) => named_by(0, 0, 0, 0, session, Follow::Session),
+        Request::Amend(_, _, _) => named_by(0, 0, 0, 0, 0, Follow::Nothing),
+        Request::Revoke(_, _) => named_by(0, 0, 0, 0, 0, Follow::Nothing),
+        Request::Close(session) => named_by(0, 0, 0, 0, session, Follow::Nothing),
+        Request::Same(_, _) => named_by(0, 0, 0, 0, 0, Follow::Nothing),
+    }
+}
+
+// The number of the role, or of the capability, that an element holds; 0 if it is the other.
+pub fn role_held(o: Origin) -> u32
+    ensures { λ z. ⌜ z ≡ roleHeld o ⌝ }
+{
+    match o {
+        Origin::Role(k) => k as u32,
+        Origin::Capability(_) => 0,
+    }
+}
+
+pub fn capability_held(o: Origin) -> u32
+    ensures { λ z. ⌜ z ≡ capabilityHeld o ⌝ }
+{
+    match o {
+        Origin::Role(_) => 0,
+        Origin::Capability(n) => n as u32,
+    }
+}
+
+pub fn capability_place(follow: Follow, named: u32, on: Origin, count: u16) -> u32
+    ensures { λ z. ⌜ z ≡ capabilityPlace follow named on count ⌝ }
+{
+    match follow {
+        Follow::Nothing => named,
+        Follow::Origin => named,
+        Follow::Session => capability_held(on),
+        Follow::Count => count as u32,
+    }
+}
+
+pub fn role_place(follow: Follow, named: u32, on: Origin, origin: Origin) -> u32
+    ensures { λ z. ⌜ z ≡ rolePlace follow named on origin ⌝ }
+{
+    match follow {
+        Follow::Nothing => named,
+        Follow::Origin => role_held(origin),
+        Follow::Session => role_held(on),
+        Follow::Count => named,
+    }
+}
+
+pub fn parent_place(follow: Follow, named: u32, origin: Origin) -> u32
+    ensures { λ z. ⌜ z ≡ parentPlace follow named origin ⌝ }
+{
+    match follow {
+        Follow::Nothing => named,
+        Follow::Origin => capability_held(origin),
+        Follow::Session => named,
+        Follow::Count => named,
+    }
+}
