@@ -1,0 +1,2 @@
+-- The calls of administration over the elements that they name.
+pub mod Administration

@@ -1,0 +1,225 @@
+// Administration: enrol, found, grant, appoint, dismiss and clock, decided over the elements that they name.
+ghost use mathlib.Core.Path.{_≡_};
+ghost use Rattle.slots.specs.Checks.{checked, firstNumber};
+ghost use Rattle.slots.specs.Slots.{ruledOf};
+ghost use Rattle.administration.specs.Administration.{enrolGuards, enrolDecision, foundGuards, foundDecision, grantGuards, grantDecision, appointGuards, appointDecision, dismissGuards, dismissDecision, clockGuards, clockDecision};
+use masks::excluding64;
+use masks::including32;
+use masks::including64;
+use masks::member;
+use model::Answer;
+use model::Refusal;
+use model::Role;
+use slots::Decision;
+use slots::Slots;
+use slots::checks::Check;
+use slots::checks::first;
+
+pub fn enrol_check(enrolled: u64, user: u32, domain: u32) -> Check
+    ensures { λ q. ⌜ checked q ≡ firstNumber (enrolGuards enrolled user domain) ⌝ }
+{
+    let already = member(enrolled, user);
+    let k = first(already, Refusal::Unchanged, Check::Pass);
+    first(!((user < 64) & (domain < 8)), Refusal::Range, k)
+}
+
+pub fn decide_enrol(v: Slots, user: u32, domain: u32) -> Decision
+    ensures { λ q. ⌜ ruledOf q ≡ enrolDecision v user domain ⌝ }
+{
+    let k = enrol_check(v.enrolled, user, domain);
+    match k {
+        Check::Refuse(why) => Decision {
+            answer: Answer::Refused(why),
+            slots: v,
+        },
+        Check::Pass => {
+            let mut w = v;
+            w.enrolled = including64(v.enrolled, user % 64);
+            w.domain = (domain % 8) as u8;
+            Decision {
+                answer: Answer::Value(0),
+                slots: w,
+            }
+        }
+    }
+}
+
+pub fn found_check(
+    founded: bool,
+    role: u32,
+    domain: u32,
+    hours: u32,
+    places: u32,
+    devices: u32,
+) -> Check
+    ensures { λ q. ⌜ checked q ≡ firstNumber (foundGuards founded role domain hours places devices) ⌝ }
+{
+    let k = first(founded, Refusal::Unchanged, Check::Pass);
+    first(
+        !((role < 32) & (domain < 8) & (hours < 16777216) & (places < 65536) & (devices < 65536)),
+        Refusal::Range,
+        k,
+    )
+}
+
+pub fn decide_found(
+    v: Slots,
+    role: u32,
+    domain: u32,
+    hours: u32,
+    places: u32,
+    devices: u32,
+) -> Decision
+    ensures { λ q. ⌜ ruledOf q ≡ foundDecision v role domain hours places devices ⌝ }
+{
+    let x = v.role;
+    let k = found_check(x.founded, role, domain, hours, places, devices);
+    match k {
+        Check::Refuse(why) => Decision {
+            answer: Answer::Refused(why),
+            slots: v,
+        },
+        Check::Pass => {
+            let y = Role {
+                founded: true,
+                domain: (domain % 8) as u8,
+                permissions: 0,
+                hours: hours,
+                places: (places % 65536) as u16,
+                devices: (devices % 65536) as u16,
+                appointed: 0,
+            };
+            let mut w = v;
+            w.role = y;
+            Decision {
+                answer: Answer::Value(0),
+                slots: w,
+            }
+        }
+    }
+}
+
+pub fn grant_check(x: Role, role: u32, permission: u32) -> Check
+    ensures { λ q. ⌜ checked q ≡ firstNumber (grantGuards x role permission) ⌝ }
+{
+    let has = member(x.permissions as u64, permission);
+    let k = first(has, Refusal::Unchanged, Check::Pass);
+    let k = first(!x.founded, Refusal::Missing, k);
+    first(!((role < 32) & (permission < 32)), Refusal::Range, k)
+}
+
+pub fn decide_grant(v: Slots, role: u32, permission: u32) -> Decision
+    ensures { λ q. ⌜ ruledOf q ≡ grantDecision v role permission ⌝ }
+{
+    let x = v.role;
+    let k = grant_check(x, role, permission);
+    match k {
+        Check::Refuse(why) => Decision {
+            answer: Answer::Refused(why),
+            slots: v,
+        },
+        Check::Pass => {
+            let mut y = x;
+            y.permissions = including32(x.permissions, permission % 32);
+            let mut w = v;
+            w.role = y;
+            Decision {
+                answer: Answer::Value(0),
+                slots: w,
+            }
+        }
+    }
+}
+
+pub fn appoint_check(enrolled: u64, domain: u8, x: Role, user: u32, role: u32) -> Check
+    ensures { λ q. ⌜ checked q ≡ firstNumber (appointGuards enrolled domain x user role) ⌝ }
+{
+    let known = member(enrolled, user);
+    let already = member(x.appointed, user);
+    let k = first(already, Refusal::Unchanged, Check::Pass);
+    let k = first(!(domain == x.domain), Refusal::Domain, k);
+    let k = first(!(known & x.founded), Refusal::Missing, k);
+    first(!((user < 64) & (role < 32)), Refusal::Range, k)
+}
+
+pub fn decide_appoint(v: Slots, user: u32, role: u32) -> Decision
+    ensures { λ q. ⌜ ruledOf q ≡ appointDecision v user role ⌝ }
+{
+    let x = v.role;
+    let k = appoint_check(v.enrolled, v.domain, x, user, role);
+    match k {
+        Check::Refuse(why) => Decision {
+            answer: Answer::Refused(why),
+            slots: v,
+        },
+        Check::Pass => {
+            let mut y = x;
+            y.appointed = including64(x.appointed, user % 64);
+            let mut w = v;
+            w.role = y;
+            Decision {
+                answer: Answer::Value(0),
+                slots: w,
+            }
+        }
+    }
+}
+
+pub fn dismiss_check(enrolled: u64, x: Role, user: u32, role: u32) -> Check
+    ensures { λ q. ⌜ checked q ≡ firstNumber (dismissGuards enrolled x user role) ⌝ }
+{
+    let known = member(enrolled, user);
+    let appointed = member(x.appointed, user);
+    let k = first(!appointed, Refusal::Unchanged, Check::Pass);
+    let k = first(!(known & x.founded), Refusal::Missing, k);
+    first(!((user < 64) & (role < 32)), Refusal::Range, k)
+}
+
+pub fn decide_dismiss(v: Slots, user: u32, role: u32) -> Decision
+    ensures { λ q. ⌜ ruledOf q ≡ dismissDecision v user role ⌝ }
+{
+    let x = v.role;
+    let k = dismiss_check(v.enrolled, x, user, role);
+    match k {
+        Check::Refuse(why) => Decision {
+            answer: Answer::Refused(why),
+            slots: v,
+        },
+        Check::Pass => {
+            let mut y = x;
+            y.appointed = excluding64(x.appointed, user % 64);
+            let mut w = v;
+            w.role = y;
+            Decision {
+                answer: Answer::Value(0),
+                slots: w,
+            }
+        }
+    }
+}
+
+pub fn clock_check(clock: u32, tick: u32) -> Check
+    ensures { λ q. ⌜ checked q ≡ firstNumber (clockGuards clock tick) ⌝ }
+{
+    first(tick < clock, Refusal::Past, Check::Pass)
+}
+
+pub fn decide_clock(v: Slots, tick: u32) -> Decision
+    ensures { λ q. ⌜ ruledOf q ≡ clockDecision v tick ⌝ }
+{
+    let k = clock_check(v.clock, tick);
+    match k {
+        Check::Refuse(why) => Decision {
+            answer: Answer::Refused(why),
+            slots: v,
+        },
+        Check::Pass => {
+            let mut w = v;
+            w.clock = tick;
+            Decision {
+                answer: Answer::Value(0),
+                slots: w,
+            }
+        }
+    }
+}
