@@ -1,0 +1,89 @@
+-- hand, allow and lend over the elements that they name: guards, value and elements after. `proofs/` shows that, put back, they
+-- are the calls of the model.
+use mathlib.Core.Path.{_≡_}
+use mathlib.Core.List.{List, [], _∷_}
+use Prim.Native.Nat.{ℕ, _%_}
+use lib.Bits.{bitOr}
+use lib.Dec.{eqb, ltb}
+use lib.ListN.{getD}
+use Rattle.masks.specs.Masks.{has, within, including, joined}
+use Rattle.model.specs.declared.Origin.{Origin}
+use Rattle.model.specs.declared.Origin.the-variants.{Role as ofRole, Capability as ofCapability}
+use Rattle.model.specs.declared.Capability.{Capability}
+use Rattle.model.specs.State.{Terms}
+use Rattle.model.specs.Rules.{isUser, isCapability, bits}
+use Rattle.model.specs.Setters.{withPermissions, withLent, withHolders}
+use Rattle.model.specs.Rulings.{Guard, _unless_, _when_, value}
+use Rattle.slots.specs.declared.Slots.{Slots}
+use Rattle.slots.specs.Checks.{raisedOf}
+use Rattle.slots.specs.Slots.{Places, Ruled, settleSlots, withCapabilitySlot}
+use Rattle.slots.specs.Terms.{slotTerms}
+
+-- the role or the capability that an origin is stands in its slot
+abbrev pub OriginPlaced : Places → Origin → Type 0
+OriginPlaced p (ofRole k) = p .role ≡ k % 32
+OriginPlaced p (ofCapability n) = p .parent ≡ n % 256
+
+-- the permissions of the roles of a mask, joined, from the column of the roles' permissions
+abbrev pub columnLent : List ℕ → ℕ → ℕ
+columnLent permissions m = joined (λ k. getD permissions k 0) m 32
+
+-- what the origin allows
+abbrev pub originTerms : Slots → List ℕ → Origin → Terms
+originTerms v permissions o = slotTerms o (v .role) (v .parent) (columnLent permissions (v .parent .lent))
+
+-- ---- hand
+
+-- "2; 3; 6 not the creator; 7; 4 receiver holds it; 10 hops at their limit"
+abbrev pub handGuards : ℕ → ℕ → Capability → (user receiver n : ℕ) → List Guard
+handGuards enrolled count c user receiver n =
+    2 unless (isUser user ∷ isUser receiver ∷ isCapability n ∷ [])
+    ∷ 3 unless (has enrolled user ∷ has enrolled receiver ∷ ltb n count ∷ [])
+    ∷ 6 unless (eqb (c .creator) user ∷ [])
+    ∷ 7 when c .revoked
+    ∷ 4 when has (c .holders) receiver
+    ∷ 10 unless (ltb (c .hops) (c .«hop_limit») ∷ [])
+    ∷ []
+
+unfoldable pub handDecision : Slots → (user receiver n : ℕ) → Ruled
+handDecision v user receiver n =
+    let c : Capability = v .capability in
+    let hops : ℕ = raisedOf (c .hops) (c .«hop_limit») in
+    settleSlots v (handGuards (v .enrolled) (v .count) c user receiver n) hops
+    (withCapabilitySlot v (withHolders c (including (c .holders) (receiver % 64)) hops))
+
+-- ---- allow and lend
+
+-- "The value is the authority after it."
+abbrev pub authorityIn : List ℕ → Capability → ℕ
+authorityIn permissions c = bitOr (c .permissions) (columnLent permissions (c .lent))
+
+-- the capability put anew
+abbrev pub renewedIn : Slots → List ℕ → Capability → Ruled
+renewedIn v permissions c = record { answer = value (authorityIn permissions c); slots = withCapabilitySlot v c }
+
+-- "2; 3; 6 user is not the creator; 7; 11 the mask exceeds what the origin may give ..; 4 it adds no bit";
+-- `given` is what the origin may give, `had` what the capability has already
+abbrev pub giveGuards : ℕ → ℕ → Capability → (given had user n mask : ℕ) → List Guard
+giveGuards enrolled count c given had user n mask =
+    2 unless (isUser user ∷ isCapability n ∷ bits 32 mask ∷ [])
+    ∷ 3 unless (has enrolled user ∷ ltb n count ∷ [])
+    ∷ 6 unless (eqb (c .creator) user ∷ [])
+    ∷ 7 when c .revoked
+    ∷ 11 unless (within mask given ∷ [])
+    ∷ 4 when within mask had
+    ∷ []
+
+unfoldable pub allowDecision : Slots → List ℕ → (user n mask : ℕ) → Ruled
+allowDecision v permissions user n mask =
+    let c : Capability = v .capability in
+    let d : Capability = withPermissions c (bitOr (c .permissions) mask) in
+    settleSlots v (giveGuards (v .enrolled) (v .count) c ((originTerms v permissions (c .origin)) .grants) (c .permissions) user n mask)
+    (authorityIn permissions d) (withCapabilitySlot v d)
+
+unfoldable pub lendDecision : Slots → List ℕ → (user n mask : ℕ) → Ruled
+lendDecision v permissions user n mask =
+    let c : Capability = v .capability in
+    let d : Capability = withLent c (bitOr (c .lent) mask) in
+    settleSlots v (giveGuards (v .enrolled) (v .count) c ((originTerms v permissions (c .origin)) .lendable) (c .lent) user n mask)
+    (authorityIn permissions d) (withCapabilitySlot v d)

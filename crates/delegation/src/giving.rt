@@ -1,0 +1,101 @@
+// The tests of hand, allow and lend, and what an origin allows.
+ghost use mathlib.Core.Path.{_≡_};
+ghost use Rattle.masks.specs.Masks.{within};
+ghost use Rattle.slots.specs.Checks.{checked, firstNumber};
+ghost use Rattle.slots.specs.Slots.{ruledOf};
+ghost use Rattle.slots.specs.Terms.{termsIn};
+ghost use Rattle.delegation.specs.Delegation.{handGuards, giveGuards, originTerms, renewedIn};
+use masks::member;
+use model::Answer;
+use model::Capability;
+use model::Origin;
+use model::Refusal;
+use slots::Decision;
+use slots::Slots;
+use slots::checks::Check;
+use slots::checks::first;
+use slots::terms::Allowance;
+use slots::terms::allowance_of;
+use slots::terms::lent;
+
+// Every item of the mask a is one of b.
+pub fn contained(a: u32, b: u32) -> bool
+    ensures { λ q. ⌜ q ≡ within a b ⌝ }
+{
+    a & b == a
+}
+
+// The capability put anew; the value is its authority.
+pub fn renewed(v: Slots, permissions: &[u32; 32], d: Capability) -> Decision
+    ensures { λ q. ⌜ ruledOf q ≡ renewedIn v (now (permissions .entry)) d ⌝ }
+{
+    let mut w = v;
+    w.capability = d;
+    Decision {
+        answer: Answer::Value(d.permissions | lent(permissions, d.lent)),
+        slots: w,
+    }
+}
+
+// What the origin o allows, read from the slot `role` or `parent`.
+pub fn origin_allows(v: Slots, permissions: &[u32; 32], o: Origin) -> Allowance
+    ensures { λ q. ⌜ termsIn q ≡ originTerms v (now (permissions .entry)) o ⌝ }
+{
+    let c = v.parent;
+    let x = v.role;
+    allowance_of(o, x, c, lent(permissions, c.lent))
+}
+
+// The tests of hand, from the last to the first.
+pub fn hand_check(
+    enrolled: u64,
+    count: u16,
+    c: Capability,
+    user: u32,
+    receiver: u32,
+    number: u32,
+) -> Check
+    ensures { λ q. ⌜ checked q ≡ firstNumber (handGuards enrolled count c user receiver number) ⌝ }
+{
+    let giver = member(enrolled, user);
+    let taker = member(enrolled, receiver);
+    let holds = member(c.holders, receiver);
+    let k = first(!(c.hops < c.hop_limit), Refusal::Exhausted, Check::Pass);
+    let k = first(holds, Refusal::Unchanged, k);
+    let k = first(c.revoked, Refusal::Revoked, k);
+    let k = first(!(c.creator as u32 == user), Refusal::Forbidden, k);
+    let k = first(
+        !(giver & taker & (number < count as u32)),
+        Refusal::Missing,
+        k,
+    );
+    first(
+        !((user < 64) & (receiver < 64) & (number < 256)),
+        Refusal::Range,
+        k,
+    )
+}
+
+// The tests of allow and lend: `given` is what the origin may give, `had` what the capability has already.
+pub fn give_check(
+    enrolled: u64,
+    count: u16,
+    c: Capability,
+    given: u32,
+    had: u32,
+    user: u32,
+    number: u32,
+    mask: u32,
+) -> Check
+    ensures { λ q. ⌜ checked q ≡ firstNumber (giveGuards enrolled count c given had user number mask) ⌝ }
+{
+    let giver = member(enrolled, user);
+    let had_all = contained(mask, had);
+    let fits = contained(mask, given);
+    let k = first(had_all, Refusal::Unchanged, Check::Pass);
+    let k = first(!fits, Refusal::Exceeds, k);
+    let k = first(c.revoked, Refusal::Revoked, k);
+    let k = first(!(c.creator as u32 == user), Refusal::Forbidden, k);
+    let k = first(!(giver & (number < count as u32)), Refusal::Missing, k);
+    first(!((user < 64) & (number < 256)), Refusal::Range, k)
+}
