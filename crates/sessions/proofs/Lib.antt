@@ -1,0 +1,2 @@
+-- Each call over the elements, put back, is the call of the model.
+pub mod Commits

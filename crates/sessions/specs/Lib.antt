@@ -1,0 +1,3 @@
+-- The calls on sessions over the elements that they name.
+pub mod Origins
+pub mod Sessions
