@@ -1,0 +1,9 @@
+-- Laws of the columns, the lineage and the sweeps.
+pub mod ColumnLaws
+pub mod Ascent
+pub mod SweepLaws
+pub mod SettleLaws
+pub mod RevokeLaws
+pub mod SameLaws
+pub mod AmendLaws
+pub mod WithdrawLaws

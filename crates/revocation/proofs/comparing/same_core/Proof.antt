@@ -1,0 +1,24 @@
+-- `revocation::comparing::same_core` meets its contract.
+use borrow.Author.Needs.{needs}
+use mathlib.Core.Path.{refl}
+use Rattle.revocation.proofs.SameLaws.{same-settled}
+use Rattle.revocation.proofs.comparing.same_core.Statement.{statement}
+use Rattle.revocation.proofs.comparing.same_core.Tie as tie
+
+returns : tie.Need-returns
+returns c =
+    let l = c .before .before .before in
+    let y = l .before .before .before in
+    let x = y .before .before .before in
+    let p = x .before .before .before .before in
+    let s = p .before .before in
+    same-settled (s .args .t1) (s .pre) (p .before .origins-of .result) (p .permissions-of .result) (p .before .origins-of .ensures) (p .permissions-of .ensures) (s .args .m) (s .args .n) _ _ _ _ _ _ _ _
+    (x .root-of .ensures .1) (y .root-of2 .ensures .1) refl refl refl refl (l .lent .ensures) (c .before .lent2 .ensures) (c .compare .ensures)
+
+pub same-core-spec : {M : Type 1} → statement M
+same-core-spec =
+    tie.close
+    (tie.spec
+    (λ c κs. tt) (λ c κs. tt) (λ c. search needs) (λ c. search needs) (λ c. search needs) (λ c. search needs) (λ c. search needs) (λ c. search needs)
+    (λ c κs. search needs) (λ c. search needs) (λ c. search needs) (λ c. search needs) (λ c κs. search needs) (λ c. search needs) (λ c. search needs) (λ c. search needs)
+    (λ c κs. tt) (λ c κs. tt) (λ c κs. tt) returns)

@@ -1,0 +1,8 @@
+// The calls that sweep over all capabilities (revoke, amend, withdraw), and the recursion up the creation tree, which revoke and same use.
+pub mod amending;
+pub mod columns;
+pub mod comparing;
+pub mod lineage;
+pub mod revoking;
+pub mod sweeps;
+pub mod withdrawing;

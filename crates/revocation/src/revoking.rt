@@ -1,0 +1,63 @@
+// revoke, on a register that is known to be well-formed.
+ghost use mathlib.Core.Path.{_≡_};
+ghost use lib.Dec.{T};
+ghost use Rattle.model.specs.Rules.{wellFormed};
+ghost use Rattle.model.specs.Calls.{settled, revoke};
+ghost use Rattle.model.specs.Requests.{effectOf};
+ghost use Rattle.slots.specs.Checks.{checked, firstNumber};
+ghost use Rattle.revocation.specs.Guards.{revokeGuards};
+use crate::columns::creators_of;
+use crate::columns::origins_of;
+use crate::lineage::created;
+use crate::sweeps::mark_all;
+use masks::member;
+use model::Answer;
+use model::Refusal;
+use model::Register;
+use model::Reply;
+use slots::checks::Check;
+use slots::checks::first;
+
+// `entitled` says whether the user created the capability or one on its lineage, `revoked` whether it is revoked already.
+pub fn revoke_check(
+    enrolled: u64,
+    count: u16,
+    user: u32,
+    n: u32,
+    entitled: bool,
+    revoked: bool,
+) -> Check
+    ensures { λ q. ⌜ checked q ≡ firstNumber (revokeGuards enrolled count user n entitled revoked) ⌝ }
+{
+    let k = first(revoked, Refusal::Revoked, Check::Pass);
+    let k = first(!entitled, Refusal::Forbidden, k);
+    let known = member(enrolled, user);
+    let k = first(!(known & (n < count as u32)), Refusal::Missing, k);
+    first(!((user < 64) & (n < 256)), Refusal::Range, k)
+}
+
+pub fn revoke_core(r: Register, user: u32, n: u32) -> Reply
+    requires { ⌜ T (wellFormed r) ⌝ }
+    ensures { λ q. ⌜ effectOf q ≡ settled r (revoke user n) ⌝ }
+{
+    let origins = origins_of(r);
+    let creators = creators_of(r);
+    let at = (n % 256) as usize;
+    let entitled = created(&origins, &creators, at, user as usize);
+    let c = r.capabilities[at];
+    let k = revoke_check(r.enrolled, r.count, user, n, entitled, c.revoked);
+    match k {
+        Check::Refuse(why) => Reply {
+            answer: Answer::Refused(why),
+            register: r,
+        },
+        Check::Pass => {
+            let swept = mark_all(r, at);
+            let next = swept.register;
+            Reply {
+                answer: Answer::Value(swept.marks),
+                register: next,
+            }
+        }
+    }
+}
