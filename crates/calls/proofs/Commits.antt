@@ -1,0 +1,98 @@
+-- Every request over the elements that it names, put back, is the call of the model.
+use mathlib.Core.Path.{_≡_, refl, sym, ap, _∙_, subst}
+use mathlib.Core.Bool.{Bool, true, false}
+use mathlib.Core.List.{List}
+use Prim.Native.Nat.{ℕ, _%_}
+use lib.Dec.{T}
+use Rattle.model.specs.declared.Origin.{Origin}
+use Rattle.model.specs.declared.Origin.the-variants.{Role as ofRole, Capability as ofCapability}
+use Rattle.model.specs.declared.Named.{Named}
+use Rattle.model.specs.declared.Named.the-variants.{Role as nameRole, Capability as nameCapability}
+use Rattle.model.specs.declared.Request.{Request}
+use Rattle.model.specs.declared.Request.the-variants.{Enrol, Found, Grant, Withdraw, Appoint, Dismiss, Clock, Create, Allow, Lend, Hand, Open, Check, Amend, Revoke, Close, Same}
+use Rattle.model.specs.declared.Register.{Register}
+use Rattle.model.specs.State.{capabilityAt, sessionAt}
+use Rattle.model.specs.Rules.{wellFormed}
+use Rattle.model.specs.Calls.{settled}
+use Rattle.model.specs.Requests.{callOf}
+use Rattle.slots.specs.declared.Decision.{Decision}
+use Rattle.slots.specs.Slots.{Places, look, Ruled, ruledOf, lifted}
+use Rattle.slots.proofs.TermLaws.{Column}
+use Rattle.places.specs.declared.Names.{Names}
+use Rattle.places.specs.Requests.{namesOf, placesIn, capabilityPlace, rolePlace, parentPlace, roleHeld, capabilityHeld, roleIn, capabilityIn}
+use Rattle.administration.proofs.Commits.{enrol-commit, found-commit, grant-commit, appoint-commit, dismiss-commit, clock-commit}
+use Rattle.delegation.specs.Delegation.{OriginPlaced}
+use Rattle.delegation.specs.Creation.{NamedPlaced}
+use Rattle.delegation.proofs.Commits.{hand-commit, allow-commit, lend-commit}
+use Rattle.delegation.proofs.CreateCommit.{create-commit}
+use Rattle.sessions.specs.Origins.{OnPlaced, NamedPlaced as SessionPlaced}
+use Rattle.sessions.proofs.Commits.{close-commit, check-commit, open-commit}
+use Rattle.calls.specs.Decide.{isOne, decideOf}
+
+-- where an origin, or what a session is on, is followed to
+origin-placed : (p : Places) (o : Origin) → p .role ≡ roleHeld o % 32 → p .parent ≡ capabilityHeld o % 256 → OriginPlaced p o
+origin-placed p (ofRole k) a b = a
+origin-placed p (ofCapability n) a b = b
+
+on-placed : (p : Places) (o : Origin) → p .role ≡ roleHeld o % 32 → p .capability ≡ capabilityHeld o % 256 → OnPlaced p o
+on-placed p (ofRole k) a b = a
+on-placed p (ofCapability n) a b = b
+
+named-placed : (p : Places) (o : Named) → p .role ≡ roleIn o % 32 → p .parent ≡ capabilityIn o % 256 → NamedPlaced p o
+named-placed p (nameRole k) a b = a
+named-placed p (nameCapability n) a b = b
+
+session-placed : (p : Places) (o : Named) → p .role ≡ roleIn o % 32 → p .capability ≡ capabilityIn o % 256 → SessionPlaced p o
+session-placed p (nameRole k) a b = a
+session-placed p (nameCapability n) a b = b
+
+pub one-commit : (r : Register) (column : List ℕ) (q : Request) → T (wellFormed r) → Column column (r .roles) → T (isOne q)
+    → lifted r (placesIn r (namesOf q)) (decideOf (look r (placesIn r (namesOf q))) column q) ≡ settled r (callOf q)
+one-commit r column (Enrol user domain) k h t = enrol-commit r _ user domain refl
+one-commit r column (Found role domain hours places devices) k h t = found-commit r _ role domain hours places devices refl
+one-commit r column (Grant role permission) k h t = grant-commit r _ role permission refl
+one-commit r column (Withdraw role permission) k h t = absurd t
+one-commit r column (Appoint user role) k h t = appoint-commit r _ user role refl refl
+one-commit r column (Dismiss user role) k h t = dismiss-commit r _ user role refl
+one-commit r column (Clock tick) k h t = clock-commit r _ tick
+one-commit r column (Create user origin at plan) k h t =
+    let p : Places = placesIn r (namesOf (Create user origin at plan)) in
+    create-commit r p column user origin at plan k h refl (named-placed p origin refl refl)
+one-commit r column (Allow user n mask) k h t =
+    let p : Places = placesIn r (namesOf (Allow user n mask)) in
+    allow-commit r p column user n mask k h refl (origin-placed p ((capabilityAt (r .capabilities) (n % 256)) .origin) refl refl)
+one-commit r column (Lend user n mask) k h t =
+    let p : Places = placesIn r (namesOf (Lend user n mask)) in
+    lend-commit r p column user n mask k h refl (origin-placed p ((capabilityAt (r .capabilities) (n % 256)) .origin) refl refl)
+one-commit r column (Hand user receiver n) k h t = hand-commit r _ user receiver n refl
+one-commit r column (Open s user on at) k h t =
+    let p : Places = placesIn r (namesOf (Open s user on at)) in
+    open-commit r p s user on at refl (session-placed p on refl refl)
+one-commit r column (Check s permission) k h t =
+    let p : Places = placesIn r (namesOf (Check s permission)) in
+    check-commit r p column s permission k h refl (on-placed p ((sessionAt (r .sessions) (s % 64)) .on) refl refl)
+one-commit r column (Amend user n change) k h t = absurd t
+one-commit r column (Revoke user n) k h t = absurd t
+one-commit r column (Close s) k h t = close-commit r _ s refl
+one-commit r column (Same m n) k h t = absurd t
+
+-- what was read, decided and put back, by the contracts of the parts
+module _ (r : Register) (m : Names) (at from up : ℕ) where
+  -- the places as code computes them
+  abbrev pub placed : Places
+  placed = record { user = m .user % 64; role = from % 32; parent = up % 256; capability = at % 256; session = m .session % 64 }
+
+  pub commit : (column : List ℕ) (q : Request) (d : Decision) → T (wellFormed r) → Column column (r .roles) → T (isOne q)
+      → m ≡ namesOf q
+      → at ≡ capabilityPlace (m .follow) (m .capability) ((sessionAt (r .sessions) (m .session % 64)) .on) (r .count)
+      → from ≡ rolePlace (m .follow) (m .role) ((sessionAt (r .sessions) (m .session % 64)) .on) ((capabilityAt (r .capabilities) (at % 256)) .origin)
+      → up ≡ parentPlace (m .follow) (m .parent) ((capabilityAt (r .capabilities) (at % 256)) .origin)
+      → ruledOf d ≡ decideOf (look r placed) column q
+      → lifted r placed (ruledOf d) ≡ settled r (callOf q)
+  commit column q d k h t em ea ef eu ed =
+      ap (lifted r placed) ed
+      ∙ ap (λ (p : Places). lifted r p (decideOf (look r p) column q)) (same ∙ ap (placesIn r) em)
+      ∙ one-commit r column q k h t
+    where
+      same : placed ≡ placesIn r m
+      same = rw (ef, eu, ea) refl

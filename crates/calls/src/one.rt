@@ -1,0 +1,136 @@
+// One call that changes only elements that it names: view, decide, commit.
+ghost use mathlib.Core.Path.{_≡_};
+ghost use lib.Dec.{T};
+ghost use Rattle.model.specs.Rules.{wellFormed};
+ghost use Rattle.model.specs.Calls.{settled};
+ghost use Rattle.model.specs.Requests.{effectOf, callOf};
+ghost use Rattle.slots.specs.Slots.{ruledOf};
+ghost use Rattle.slots.proofs.TermLaws.{Column};
+ghost use Rattle.calls.specs.Decide.{decideOf, isOne};
+use administration::decide_appoint;
+use administration::decide_clock;
+use administration::decide_dismiss;
+use administration::decide_enrol;
+use administration::decide_found;
+use administration::decide_grant;
+use delegation::decide_allow;
+use delegation::decide_create;
+use delegation::decide_hand;
+use delegation::decide_lend;
+use model::Answer;
+use model::Refusal;
+use model::Register;
+use model::Reply;
+use model::Request;
+use places::capability_place;
+use places::names_of;
+use places::parent_place;
+use places::role_place;
+use sessions::decide_check;
+use sessions::decide_close;
+use sessions::decide_open;
+use slots::Decision;
+use slots::Slots;
+
+// A request that reads or changes the whole tree is not decided here.
+pub fn decide(v: Slots, permissions: &[u32; 32], q: Request) -> Decision
+    ensures { λ z. ⌜ ruledOf z ≡ decideOf v (now (permissions .entry)) q ⌝ }
+{
+    match q {
+        Request::Enrol(user, domain) => decide_enrol(v, user, domain),
+        Request::Found(role, domain, hours, places, devices) => decide_found(
+            v,
+            role,
+            domain,
+            hours,
+            places,
+            devices,
+        ),
+        Request::Grant(role, permission) => decide_grant(v, role, permission),
+        Request::Withdraw(_, _) => Decision {
+            answer: Answer::Refused(Refusal::Malformed),
+            slots: v,
+        },
+        Request::Appoint(user, role) => decide_appoint(v, user, role),
+        Request::Dismiss(user, role) => decide_dismiss(v, user, role),
+        Request::Clock(tick) => decide_clock(v, tick),
+        Request::Create(user, origin, at, plan) => decide_create(
+            v,
+            permissions,
+            user,
+            origin,
+            at,
+            plan,
+        ),
+        Request::Allow(user, number, mask) => decide_allow(v, permissions, user, number, mask),
+        Request::Lend(user, number, mask) => decide_lend(v, permissions, user, number, mask),
+        Request::Hand(user, receiver, number) => decide_hand(v, user, receiver, number),
+        Request::Open(session, user, on, at) => decide_open(v, session, user, on, at),
+        Request::Check(session, permission) => decide_check(v, permissions, session, permission),
+        Request::Amend(_, _, _) => Decision {
+            answer: Answer::Refused(Refusal::Malformed),
+            slots: v,
+        },
+        Request::Revoke(_, _) => Decision {
+            answer: Answer::Refused(Refusal::Malformed),
+            slots: v,
+        },
+        Request::Close(session) => decide_close(v, session),
+        Request::Same(_, _) => Decision {
+            answer: Answer::Refused(Refusal::Malformed),
+            slots: v,
+        },
+    }
+}
+
+// The call on a register that is known to be well-formed, by value.
+pub fn apply_one(r: Register, permissions: &[u32; 32], q: Request) -> Reply
+    requires { ⌜ T (wellFormed r) ⌝ }
+    requires { ⌜ Column (now permissions) (r .roles) ⌝ }
+    requires { ⌜ T (isOne q) ⌝ }
+    ensures { λ z. ⌜ effectOf z ≡ settled r (callOf q) ⌝ }
+{
+    let m = names_of(q);
+    let follow = m.follow;
+    let un = (m.user % 64) as usize;
+    let sn = (m.session % 64) as usize;
+    let session = r.sessions[sn];
+    let on = session.on;
+    let cn = (capability_place(follow, m.capability, on, r.count) % 256) as usize;
+    let capability = r.capabilities[cn];
+    let origin = capability.origin;
+    let rn = (role_place(follow, m.role, on, origin) % 32) as usize;
+    let pn = (parent_place(follow, m.parent, origin) % 256) as usize;
+    let role = r.roles[rn];
+    let parent = r.capabilities[pn];
+    let v = Slots {
+        clock: r.clock,
+        enrolled: r.enrolled,
+        count: r.count,
+        domain: r.domains[un],
+        role: role,
+        parent: parent,
+        capability: capability,
+        session: session,
+    };
+    let d = decide(v, permissions, q);
+    let w = d.slots;
+    let mut next = r;
+    next.clock = w.clock;
+    next.enrolled = w.enrolled;
+    next.count = w.count;
+    next.domains[un] = w.domain;
+    let x = w.role;
+    next.roles[rn] = x;
+    let x = w.parent;
+    next.capabilities[pn] = x;
+    let x = w.capability;
+    next.capabilities[cn] = x;
+    let x = w.session;
+    next.sessions[sn] = x;
+    let answer = d.answer;
+    Reply {
+        answer: answer,
+        register: next,
+    }
+}
