@@ -1,0 +1,3 @@
+-- What holds of images, and what the code's tables mean; the definitions of images are those of `model`.
+pub mod Laws
+pub mod Codes
