@@ -1,0 +1,160 @@
+-- Laws of parts: `split` by the first part and what follows it, lent parts, and comparing.
+use mathlib.Core.Path.{_≡_, refl, sym, ap, ap₂, _∙_}
+use mathlib.Core.Bool.{Bool, true, false, cond, _&&_}
+use mathlib.Core.List.{List, [], _∷_, _++_}
+use Prim.Native.Nat.{ℕ, zero, suc, _+_, _-_, _≤_, _<_}
+use native.Mathlib.Nat.{le-refl, suc-ne-zero}
+use native.Mathlib.Numerals.{add-one}
+use native.Mathlib.Omega.{arith}
+use borrow.Author.Tests.{eqb-true, eq-eqb, ne-eqb}
+use lib.Dec.{eqb}
+use lib.ListN.{length, take, drop, getD, length-drop, drop-of-length-le}
+use lib.Seq.{drop-cons, drop-drop, take-all}
+use Rattle.masks.specs.Bytes.{sameBytes, onto, split}
+use Rattle.text.specs.Parts.{before, firstWord, after}
+
+-- ---- before
+
+before-step : (b : ℕ) (s : List ℕ) (i : ℕ) → i < length s
+    → before b (drop i s) ≡ cond (eqb (getD s i 0) b) [] (getD s i 0 ∷ before b (drop (i + 1) s))
+before-step b s i h = rw (add-one, drop-cons s i 0)
+
+pub before-hit : (b : ℕ) (s : List ℕ) (i : ℕ) → i < length s → getD s i 0 ≡ b → before b (drop i s) ≡ []
+before-hit b s i h e = before-step b s i h ∙ rw (eq-eqb _ _ e)
+
+pub before-miss : (b : ℕ) (s : List ℕ) (i : ℕ) → i < length s → (getD s i 0 ≡ b → ⊥) → before b (drop i s) ≡ getD s i 0 ∷ before b (drop (i + 1) s)
+before-miss b s i h e = before-step b s i h ∙ rw (ne-eqb _ _ e)
+
+pub before-done : (b : ℕ) (s : List ℕ) (i : ℕ) → length s ≤ i → before b (drop i s) ≡ []
+before-done b s i h = rw (drop-of-length-le s h)
+
+-- a list's first bytes, as many as stand before b
+pub take-before : (b : ℕ) (s : List ℕ) → take (length (before b s)) s ≡ before b s
+take-before b [] = refl
+take-before b (x ∷ s) = cases (eqb x b) (take-before b s)
+  where
+    cases : (t : Bool) → take (length (before b s)) s ≡ before b s → take (length (cond t [] (x ∷ before b s))) (x ∷ s) ≡ cond t [] (x ∷ before b s)
+    cases true h = refl
+    cases false h = ap (λ (l : List ℕ). x ∷ l) h
+
+pub length-before : (b : ℕ) (s : List ℕ) → length (before b s) ≤ length s
+length-before b [] = omega arith
+length-before b (x ∷ s) = cases (eqb x b) (length-before b s)
+  where
+    cases : (t : Bool) → length (before b s) ≤ length s → length (cond t [] (x ∷ before b s)) ≤ suc (length s)
+    cases true h = omega arith
+    cases false h = omega arith
+
+-- ---- a lent tail, `&s[at..]`
+
+pub tail : (at : ℕ) (s : List ℕ) → take (length s - at) (drop at s) ≡ drop at s
+tail at s = take-all (length s - at) (drop at s) (rw length-drop (le-refl _))
+
+-- ---- split: the first part, and the parts that follow it
+
+pub split-before : (b : ℕ) (s : List ℕ) → split b s ≡ before b s ∷ after b (drop (length (before b s)) s)
+split-before b [] = refl
+split-before b (x ∷ s) = cases (eqb x b) (split-before b s)
+  where
+    cases : (t : Bool) → split b s ≡ before b s ∷ after b (drop (length (before b s)) s)
+        → cond t ([] ∷ split b s) (onto x (split b s)) ≡ cond t [] (x ∷ before b s) ∷ after b (drop (length (cond t [] (x ∷ before b s))) (x ∷ s))
+    cases true h = refl
+    cases false h = ap (onto x) h
+
+-- a separator follows the first part
+pub after-more : (b : ℕ) (s : List ℕ) (n : ℕ) → n < length s → after b (drop n s) ≡ split b (drop (suc n) s)
+after-more b s n h = ap (after b) (drop-cons s n 0 h)
+
+-- nothing follows it
+pub after-end : (b : ℕ) (s : List ℕ) (n : ℕ) → length s ≤ n → after b (drop n s) ≡ []
+after-end b s n h = ap (after b) (drop-of-length-le s h)
+
+-- the parts after a separator at the front of s
+pub after-none : (b : ℕ) (s : List ℕ) → length s ≡ 0 → after b s ≡ []
+after-none b [] h = refl
+after-none b (x ∷ s) h = absurd (suc-ne-zero _ h)
+
+pub after-word : (b : ℕ) (s : List ℕ) → (length s ≡ 0 → ⊥) → after b s ≡ before b (drop 1 s) ∷ after b (drop (1 + length (before b (drop 1 s))) s)
+after-word b [] h = absurd (h refl)
+after-word b (x ∷ s) h =
+    let n : ℕ = length (before b s) in
+    let e : suc n ≡ 1 + n = omega arith in
+    split-before b s ∙ ap (λ (j : ℕ). before b s ∷ after b (drop j (x ∷ s))) e
+
+-- the same by w, the first word of the lent part `&s[1..]`
+module _ (s w : List ℕ) (some : length s ≡ 0 → ⊥) (e : w ≡ firstWord (take (length s - 1) (drop 1 s))) where
+  pub next-word : after 32 s ≡ w ∷ after 32 (drop (1 + length w) s)
+  next-word = after-word 32 s some ∙ ap (λ (x : List ℕ). x ∷ after 32 (drop (1 + length x) s)) (sym (e ∙ ap firstWord (tail 1 s)))
+
+  pub next-fits : 1 + length w ≤ length s
+  next-fits =
+      let long : length w ≤ length (drop 1 s) = rw (e, tail 1 s) (length-before 32 (drop 1 s)) in
+      let full : 1 ≤ length s = above (length s) some in
+      omega (arith, simp length-drop at long)
+    where
+      above : (n : ℕ) → (n ≡ 0 → ⊥) → 1 ≤ n
+      above zero h = absurd (h refl)
+      above (suc n) h = omega arith
+
+-- the parts from `at` on, n being where the next separator is: one that ends with it, and those after it
+pub split-line : (b : ℕ) (s : List ℕ) (at n : ℕ) → n ≡ length (before b (drop at s)) → at + n < length s
+    → split b (drop at s) ≡ take (at + n - at) (drop at s) ∷ split b (drop (at + n + 1) s)
+split-line b s at n e h =
+    let k : at + n - at ≡ length (before b (drop at s)) = omega arith in
+    let d : after b (drop n (drop at s)) ≡ split b (drop (at + n + 1) s) = rw (drop-drop, add-one) (after-more b s (at + n) h) in
+    split-before b (drop at s) ∙ rw (k, take-before b (drop at s), ← e) (ap (λ (l : List (List ℕ)). before b (drop at s) ∷ l) d)
+
+-- the last part, which none ends
+pub split-last : (b : ℕ) (s : List ℕ) (at n : ℕ) → n ≡ length (before b (drop at s)) → at + n ≡ length s → split b (drop at s) ≡ drop at s ∷ []
+split-last b s at n e h =
+    let l : List ℕ = drop at s in
+    let long : length l ≤ n = rw length-drop (omega arith) in
+    let whole : before b l ≡ l = sym (take-before b l) ∙ ap (λ (k : ℕ). take k l) (sym e) ∙ take-all n l long in
+    let rest : after b (drop (length (before b l)) l) ≡ [] = ap (λ (k : ℕ). after b (drop k l)) (sym e) ∙ after-end b l n long in
+    split-before b l ∙ ap₂ (λ (w : List ℕ) (ws : List (List ℕ)). w ∷ ws) whole rest
+
+-- ---- comparing
+
+no : _≡_ {A = ℕ} 0 1 → ⊥
+no z = omega arith
+
+same-step : (a b : List ℕ) (i : ℕ) → i < length a → i < length b
+    → sameBytes (drop i a) (drop i b) ≡ (eqb (getD a i 0) (getD b i 0) && sameBytes (drop (i + 1) a) (drop (i + 1) b))
+same-step a b i ha hb = rw (add-one, drop-cons a i 0, drop-cons b i 0)
+
+pub same-more : (a b : List ℕ) (i : ℕ) → i < length a → i < length b → getD a i 0 ≡ getD b i 0
+    → sameBytes (drop (i + 1) a) (drop (i + 1) b) ≡ sameBytes (drop i a) (drop i b)
+same-more a b i ha hb e = sym (same-step a b i ha hb ∙ rw (eq-eqb _ _ e))
+
+pub same-less : (a b : List ℕ) (i : ℕ) → i < length a → i < length b → (getD a i 0 ≡ getD b i 0 → ⊥) → sameBytes (drop i a) (drop i b) ≡ false
+same-less a b i ha hb e = same-step a b i ha hb ∙ rw (ne-eqb _ _ e)
+
+and-false : (b : Bool) → (b && false) ≡ false
+and-false true = refl
+and-false false = refl
+
+pub same-long : (a b : List ℕ) → (length a ≡ length b → ⊥) → sameBytes a b ≡ false
+same-long [] [] h = absurd (h refl)
+same-long [] (y ∷ ys) h = refl
+same-long (x ∷ xs) [] h = refl
+same-long (x ∷ xs) (y ∷ ys) h = rw (same-long xs ys (λ e. h (ap suc e))) (and-false (eqb x y))
+
+pub same-done : (a b : List ℕ) (i : ℕ) → length a ≤ i → length b ≤ i → sameBytes (drop i a) (drop i b) ≡ true
+same-done a b i ha hb = rw (drop-of-length-le a ha, drop-of-length-le b hb)
+
+and-first : (b c : Bool) → (b && c) ≡ true → b ≡ true
+and-first true c h = refl
+and-first false c h = h
+
+and-second : (b c : Bool) → (b && c) ≡ true → c ≡ true
+and-second true c h = h
+and-second false c h = let z : _≡_ {A = ℕ} 0 1 = cc in absurd (no z)
+
+pub same-eq : (a b : List ℕ) → sameBytes a b ≡ true → a ≡ b
+same-eq [] [] h = refl
+same-eq [] (y ∷ ys) h = let z : _≡_ {A = ℕ} 0 1 = cc in absurd (no z)
+same-eq (x ∷ xs) [] h = let z : _≡_ {A = ℕ} 0 1 = cc in absurd (no z)
+same-eq (x ∷ xs) (y ∷ ys) h =
+    let e : x ≡ y = eqb-true x y (and-first (eqb x y) (sameBytes xs ys) h) in
+    let r = same-eq xs ys (and-second (eqb x y) (sameBytes xs ys) h) in
+    cc
