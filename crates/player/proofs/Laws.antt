@@ -1,0 +1,117 @@
+-- What a line comes to by its parsed request; that a line keeps what the test of the rules says; printing into parts.
+use mathlib.Core.Path.{_≡_, refl, sym, ap, _∙_}
+use mathlib.Core.Bool.{Bool, true, false}
+use mathlib.Core.List.{List, [], _∷_, _++_}
+use mathlib.Core.Option.{Option, none, some}
+use Prim.Native.Nat.{ℕ, _+_, _-_, _≤_, _<_}
+use native.Mathlib.Nat.{le-refl}
+use native.Mathlib.Omega.{arith}
+use borrow.Author.Tests.{le-leb, lt-leb}
+use borrow.Rule.Slice.PartMut.{putMid}
+use lib.Dec.{T}
+use lib.ListN.{length, take, drop, length-drop, take-append-drop}
+use lib.Seq.{drop-cons}
+use Rattle.masks.specs.Bytes.{front, split}
+use Rattle.masks.proofs.Truth.{T→true, true→T}
+use Rattle.model.specs.declared.Register.{Register}
+use Rattle.model.specs.declared.Request.{Request}
+use Rattle.model.specs.declared.Parsed.{Parsed}
+use Rattle.model.specs.declared.Parsed.the-variants.{Line, NoRequest}
+use Rattle.model.specs.Rules.{wellFormed}
+use Rattle.model.specs.Rulings.{Outcome, refused, Effect}
+use Rattle.model.specs.Calls.{Call, settled, step}
+use Rattle.model.specs.Requests.{callOf, parsedCall}
+use Rattle.model.specs.Lines.{parse, printed}
+use Rattle.model.specs.Journal.{requested, lineEffect, unended, transcript, journal}
+use Rattle.model.proofs.Settling.{step-settled}
+use Rattle.model.proofs.Rules.{kept→, kept←}
+use Rattle.model.proofs.Running.{step-keeps}
+use Rattle.text.specs.Writing.{written, filled}
+use Rattle.text.proofs.AnswerLaws.{printed-room, printed-most}
+use Rattle.text.proofs.PartLaws.{tail}
+use Rattle.text.proofs.WriteLaws.{placed, placed-append, tail-back}
+use Rattle.calls.proofs.Tasks.{broken}
+use Rattle.player.specs.Play.{journalLength, journalBuffer}
+
+-- ---- one line
+
+module _ (r : Register) (line : List ℕ) (q : Parsed) (e : parsedCall q ≡ parse line) where
+  pub line-none : q ≡ NoRequest → record { answer = refused 1; after = r } ≡ lineEffect r line
+  unfolding lineEffect
+  line-none g = ap (requested r) (sym (ap parsedCall g) ∙ e)
+
+  pub line-done : (p : Request) (z : Effect) → q ≡ Line p → T (wellFormed r) → z ≡ settled r (callOf p) → z ≡ lineEffect r line
+  unfolding lineEffect
+  line-done p z g k h = h ∙ sym (step-settled r (callOf p) k) ∙ ap (requested r) (sym (ap parsedCall g) ∙ e)
+
+  pub line-broken : (p : Request) → q ≡ Line p → wellFormed r ≡ false → record { answer = refused 15; after = r } ≡ lineEffect r line
+  unfolding lineEffect
+  line-broken p g k = broken r (callOf p) k ∙ ap (requested r) (sym (ap parsedCall g) ∙ e)
+
+-- ---- the test of the rules says the same after a line
+
+step-formed : (r : Register) (c : Call) (b : Bool) → wellFormed r ≡ b → wellFormed ((step r c) .after) ≡ b
+step-formed r c true e = T→true (wellFormed ((step r c) .after)) (kept← ((step r c) .after) (step-keeps r c (kept→ r (true→T (wellFormed r) e))))
+step-formed r c false e = ap (λ (z : Effect). wellFormed (z .after)) (sym (broken r c e)) ∙ e
+
+pub line-formed : (r : Register) (line : List ℕ) → wellFormed ((lineEffect r line) .after) ≡ wellFormed r
+unfolding lineEffect
+line-formed r line = cases (parse line)
+  where
+    cases : (o : Option Call) → wellFormed ((requested r o) .after) ≡ wellFormed r
+    cases none = refl
+    cases (some c) = step-formed r c (wellFormed r) refl
+
+-- ---- printing into the part of the output that follows what is printed
+
+pub length-tail : (at : ℕ) (s : List ℕ) → length (take (length s - at) (drop at s)) ≡ length s - at
+length-tail at s = ap length (tail at s) ∙ length-drop at s
+
+-- an answer printed at `at`, and the texts after it
+pub answer-step : (at : ℕ) (o : Outcome) (ys s whole last : List ℕ) → placed at (printed o ++ ys) s ≡ whole → at + 14 ≤ length s
+    → last ≡ written (printed o) (take (length s - at) (drop at s)) → placed (at + length (printed o)) ys (putMid at (length s - at) s last) ≡ whole
+answer-step at o ys s whole last h room e =
+    let fits : 14 ≤ length (take (length s - at) (drop at s)) = omega (arith, length-tail at s) in
+    let short : at + length (printed o) ≤ length s = omega (arith, printed-most o) in
+    ap (placed (at + length (printed o)) ys) (tail-back at (printed o) s last (e ∙ printed-room o _ fits .0))
+    ∙ placed-append at (printed o) ys s short
+    ∙ h
+
+-- the last answer
+pub answer-last : (at : ℕ) (o : Outcome) (s last : List ℕ) → at + 14 ≤ length s
+    → last ≡ written (printed o) (take (length s - at) (drop at s)) → putMid at (length s - at) s last ≡ placed at (printed o) s
+answer-last at o s last room e = tail-back at (printed o) s last (e ∙ printed-room o _ (omega (arith, length-tail at s)) .0)
+
+-- how many bytes an answer takes
+pub answer-size : (at : ℕ) (o : Outcome) (s : List ℕ) {n : ℕ} → at + 14 ≤ length s → n ≡ filled (printed o) (take (length s - at) (drop at s)) → n ≡ length (printed o)
+answer-size at o s room e = e ∙ printed-room o _ (omega (arith, length-tail at s)) .1
+
+-- nothing printed leaves the output as it is
+pub placed-nil : (at : ℕ) (s : List ℕ) → placed at [] s ≡ s
+placed-nil at s = take-append-drop at s
+
+-- something follows the last line feed
+pub unended-some : (s : List ℕ) (at : ℕ) → at < length s → unended (drop at s) ≡ printed (refused 1)
+unended-some s at l = ap unended (drop-cons s at 0 l)
+
+-- ---- the whole journal
+
+pub journal-long : (r : Register) (input : List ℕ) → 32768 < length input → journal r input ≡ printed (refused 1)
+unfolding journal
+journal-long r input l =
+    ap (λ (b : Bool). elim b as (λ x. List ℕ) [ true ↦ transcript r (split 10 input) | false ↦ printed (refused 1) ]) (lt-leb (length input) 32768 l)
+
+pub journal-short : (r : Register) (input : List ℕ) → length input ≤ 32768 → journal r input ≡ transcript r (split 10 input)
+unfolding journal
+journal-short r input l =
+    ap (λ (b : Bool). elim b as (λ x. List ℕ) [ true ↦ transcript r (split 10 input) | false ↦ printed (refused 1) ]) (le-leb (length input) 32768 l)
+
+module _ (r : Register) (input out : List ℕ) where
+  pub no-room : length out < 458752 → (0 ≡ journalLength r input out) × (out ≡ journalBuffer r input out)
+  unfolding journalLength journalBuffer
+  no-room h = rw (lt-leb 458752 (length out) h) (refl, refl)
+
+  pub with-room : 458752 ≤ length out → (text : List ℕ) → journal r input ≡ text
+      → (length text ≡ journalLength r input out) × (front text out ≡ journalBuffer r input out)
+  unfolding journalLength journalBuffer
+  with-room h text e = rw (le-leb 458752 (length out) h) (ap length (sym e), ap (λ (x : List ℕ). front x out) (sym e))

@@ -1,0 +1,2 @@
+-- What a journal leaves in the output that it is lent.
+pub mod Play
