@@ -1,0 +1,7 @@
+#!/usr/bin/env bash
+# Random journals, damaged lines and sizes around the limit among them, through the proved journal program and through the
+# independent implementation. `rt check journal` or `rt ci` builds the program. The last line is 'N passed, M failed'.
+set -u
+cd "$(dirname "$0")/.." || exit 1
+cargo build --release --offline --quiet --manifest-path compare/Cargo.toml || exit 1
+compare/target/release/compare target/bin/journal "${1:-300}"
