@@ -19,7 +19,7 @@ use text::parts::count_before;
 use text::requests::parse;
 
 // One line of a journal; `formed` is what the test of the rules says of the register.
-pub fn act(r: Register, formed: bool, line: &[u8]) -> Reply
+fn act(r: Register, formed: bool, line: &[u8]) -> Reply
     requires { ⌜ formed ≡ wellFormed r ⌝ }
     ensures { λ z. ⌜ effectOf z ≡ lineEffect r (now (line .entry)) ⌝ }
 {
@@ -41,7 +41,7 @@ pub fn act(r: Register, formed: bool, line: &[u8]) -> Reply
 }
 
 // The lines of an input, from any register; the output has room for 14 bytes a byte.
-pub fn play(start: Register, input: &[u8], out: &mut [u8]) -> usize
+fn play(start: Register, input: &[u8], out: &mut [u8]) -> usize
     requires { ⌜ 14 * length (now input) ≤ length (now out) ⌝ }
     ensures { λ q. ⌜ (q ≡ length (transcript start (split 10 (now (input .entry))))) × (now (out .exit) ≡ front (transcript start (split 10 (now (input .entry)))) (now (out .entry))) × (q ≤ length (now (out .entry))) ⌝ }
 {
