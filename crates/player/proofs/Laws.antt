@@ -1,20 +1,21 @@
--- What a line comes to by its parsed request; that a line keeps what the test of the rules says; printing into parts.
-use mathlib.Core.Path.{_≡_, refl, sym, ap, _∙_}
+-- What a line comes to; that it keeps what the test of the rules says; printing into parts; a turn of the loop.
+use mathlib.Core.Path.{_≡_, refl, sym, ap, _∙_, subst}
 use mathlib.Core.Bool.{Bool, true, false}
-use mathlib.Core.List.{List, [], _∷_, _++_}
+use mathlib.Core.List.{List, [], _++_}
 use mathlib.Core.Option.{Option, none, some}
-use Prim.Native.Nat.{ℕ, _+_, _-_, _≤_, _<_}
-use native.Mathlib.Nat.{le-refl}
+use Prim.Native.Nat.{ℕ, _+_, _-_, _*_, _≤_, _<_}
 use native.Mathlib.Omega.{arith}
-use borrow.Author.Tests.{le-leb, lt-leb}
+use borrow.Author.Tests.{le-leb, lt-leb, eqb-true, eqb-false}
 use borrow.Rule.Slice.PartMut.{putMid}
-use lib.Dec.{T}
-use lib.ListN.{length, take, drop, length-drop, take-append-drop}
-use lib.Seq.{drop-cons}
+use lib.Dec.{T, eqb}
+use lib.ListN.{length, take, drop, getD, set, length-append, length-drop, take-append-drop}
+use lib.Seq.{drop-cons, getD-set-same, getD-set-other}
 use Rattle.masks.specs.Bytes.{front, split}
 use Rattle.masks.proofs.Truth.{T→true, true→T}
 use Rattle.model.specs.declared.Register.{Register}
 use Rattle.model.specs.declared.Request.{Request}
+use Rattle.model.specs.declared.Role.{Role}
+use Rattle.model.specs.State.{blankRole, roleAuthority}
 use Rattle.model.specs.declared.Parsed.{Parsed}
 use Rattle.model.specs.declared.Parsed.the-variants.{Line, NoRequest}
 use Rattle.model.specs.Rules.{wellFormed}
@@ -26,7 +27,10 @@ use Rattle.model.specs.Journal.{requested, lineEffect, unended, transcript, jou
 use Rattle.model.proofs.Settling.{step-settled}
 use Rattle.model.proofs.Rules.{kept→, kept←}
 use Rattle.model.proofs.Running.{step-keeps}
+use Rattle.slots.proofs.TermLaws.{Column}
+use Rattle.text.specs.Parts.{before}
 use Rattle.text.specs.Writing.{written, filled}
+use Rattle.text.proofs.TranscriptLaws.{transcript-line}
 use Rattle.text.proofs.AnswerLaws.{printed-room, printed-most}
 use Rattle.text.proofs.PartLaws.{tail}
 use Rattle.text.proofs.WriteLaws.{placed, placed-append, tail-back}
@@ -40,13 +44,19 @@ module _ (r : Register) (line : List ℕ) (q : Parsed) (e : parsedCall q ≡ par
   unfolding lineEffect
   line-none g = ap (requested r) (sym (ap parsedCall g) ∙ e)
 
-  pub line-done : (p : Request) (z : Effect) → q ≡ Line p → T (wellFormed r) → z ≡ settled r (callOf p) → z ≡ lineEffect r line
-  unfolding lineEffect
-  line-done p z g k h = h ∙ sym (step-settled r (callOf p) k) ∙ ap (requested r) (sym (ap parsedCall g) ∙ e)
-
   pub line-broken : (p : Request) → q ≡ Line p → wellFormed r ≡ false → record { answer = refused 15; after = r } ≡ lineEffect r line
   unfolding lineEffect
   line-broken p g k = broken r (callOf p) k ∙ ap (requested r) (sym (ap parsedCall g) ∙ e)
+
+-- a line that was parsed says its request's call
+pub line-says : (line : List ℕ) (q : Parsed) → parsedCall q ≡ parse line → (p : Request) → q ≡ Line p → parse line ≡ some (callOf p)
+line-says line q e p g = sym e ∙ ap parsedCall g
+
+-- the call of a line, settled on a register that keeps the rules
+pub line-done : (r : Register) (line : List ℕ) (p : Request) (z : Effect) → parse line ≡ some (callOf p) → T (wellFormed r)
+    → z ≡ settled r (callOf p) → z ≡ lineEffect r line
+unfolding lineEffect
+line-done r line p z e k h = h ∙ sym (step-settled r (callOf p) k) ∙ ap (requested r) (sym e)
 
 -- ---- the test of the rules says the same after a line
 
@@ -61,6 +71,9 @@ line-formed r line = cases (parse line)
     cases : (o : Option Call) → wellFormed ((requested r o) .after) ≡ wellFormed r
     cases none = refl
     cases (some c) = step-formed r c (wellFormed r) refl
+
+pub formed-after : (r : Register) (line : List ℕ) (z : Effect) {formed : Bool} → formed ≡ wellFormed r → z ≡ lineEffect r line → formed ≡ wellFormed (z .after)
+formed-after r line z h e = h ∙ sym (line-formed r line) ∙ ap (λ (y : Effect). wellFormed (y .after)) (sym e)
 
 -- ---- printing into the part of the output that follows what is printed
 
@@ -93,6 +106,67 @@ placed-nil at s = take-append-drop at s
 -- something follows the last line feed
 pub unended-some : (s : List ℕ) (at : ℕ) → at < length s → unended (drop at s) ≡ printed (refused 1)
 unended-some s at l = ap unended (drop-cons s at 0 l)
+
+-- ---- a turn of the loop
+
+-- with r, what is still to be printed for the input from `at` on stands after `to` bytes and gives the whole
+pub record Playing (start : Register) (input out₀ : List ℕ) (r : Register) (out : List ℕ) (at to : ℕ) : Type 0 where
+  pub inside : at ≤ length input
+  pub text : placed to (transcript r (split 10 (drop at input))) out ≡ front (transcript start (split 10 input)) out₀
+  pub size : to + length (transcript r (split 10 (drop at input))) ≡ length (transcript start (split 10 input))
+  pub kept : length out ≡ length out₀
+  pub room : to + 14 * (length input - at) ≤ length out
+
+-- the line of n bytes, answered o with the register next: m bytes are printed, and `last` is what the printer left
+module _ (start : Register) (input out₀ : List ℕ) (r : Register) (out : List ℕ) (at to : ℕ) (p : Playing start input out₀ r out at to)
+    (n : ℕ) (line : n ≡ length (before 10 (drop at input))) (more : at + n < length input) (o : Outcome) (next : Register)
+    (effect : record { answer = o; after = next } ≡ lineEffect r (take (at + n - at) (drop at input)))
+    (m : ℕ) (last : List ℕ) (printing : (m ≡ filled (printed o) (take (length out - to) (drop to out))) × (last ≡ written (printed o) (take (length out - to) (drop to out)))) where
+  fits : to + 14 ≤ length out
+  fits = omega (arith, p .room, more)
+
+  count : m ≡ length (printed o)
+  count = answer-size to o out fits (printing .0)
+
+  left : transcript r (split 10 (drop at input)) ≡ printed o ++ transcript next (split 10 (drop (at + n + 1) input))
+  left =
+      transcript-line r input at n line more
+      ∙ ap (λ (z : Effect). printed (z .answer) ++ transcript (z .after) (split 10 (drop (at + n + 1) input))) (sym effect)
+
+  pub no-wrap : to + m ≤ length out
+  no-wrap = omega (arith, fits, count, printed-most o)
+
+  pub turn : length (putMid to (length out - to) out last) ≡ length out
+      → Playing start input out₀ next (putMid to (length out - to) out last) (at + n + 1) (to + m)
+  turn same =
+      let sum = simp length-append at (ap length left) in
+      record {
+        inside = omega (arith, more);
+        text = rw count (answer-step to o _ out _ last (rw left at (p .text)) fits (printing .1));
+        size = omega (arith, count, sum, p .size);
+        kept = same ∙ p .kept;
+        room = rw same (omega (arith, count, printed-most o, p .room, more));
+      }
+
+-- ---- the column of the roles' permissions
+
+-- a role and its place in the column, put anew together
+pub column-put : (column : List ℕ) (roles : List Role) (i : ℕ) (x : Role) → length column ≡ 32 → length roles ≡ 32 → i < 32
+    → Column column roles → Column (set column i (x .permissions)) (set roles i x)
+unfolding roleAuthority
+column-put column roles i x lc lr l h k lk = cases (eqb k i) refl
+  where
+    here : getD (set column i (x .permissions)) i 0 ≡ roleAuthority (set roles i x) i
+    here =
+        getD-set-same column i (x .permissions) 0 (omega (arith, lc, l))
+        ∙ ap (λ (y : Role). y .permissions) (sym (getD-set-same roles i x blankRole (omega (arith, lr, l))))
+
+    cases : (b : Bool) → eqb k i ≡ b → getD (set column i (x .permissions)) k 0 ≡ roleAuthority (set roles i x) k
+    cases true e = subst (λ (j : ℕ). getD (set column i (x .permissions)) j 0 ≡ roleAuthority (set roles i x) j) (sym (eqb-true k i e)) here
+    cases false e =
+        getD-set-other column i k (x .permissions) 0 (eqb-false k i e)
+        ∙ h k lk
+        ∙ ap (λ (y : Role). y .permissions) (sym (getD-set-other roles i k x blankRole (eqb-false k i e)))
 
 -- ---- the whole journal
 

@@ -3,49 +3,35 @@ ghost use mathlib.Core.Path.{_≡_};
 ghost use Prim.Native.Nat.{_*_, _≤_};
 ghost use lib.ListN.{length};
 ghost use Rattle.masks.specs.Bytes.{front, split};
-ghost use Rattle.model.specs.Rules.{wellFormed};
-ghost use Rattle.model.specs.Requests.{effectOf};
-ghost use Rattle.model.specs.Journal.{lineEffect, transcript};
+ghost use Rattle.model.specs.Journal.{transcript};
 ghost use Rattle.player.specs.Play.{journalLength, journalBuffer};
+use crate::step::Step;
+use crate::step::step_of;
 use calls::apply::apply_trusted;
+use calls::one::decide;
 use model::Answer;
-use model::Parsed;
 use model::Refusal;
 use model::Register;
-use model::Reply;
+use places::capability_place;
+use places::names_of;
+use places::parent_place;
+use places::role_place;
+use revocation::columns::permissions_of;
 use rules::well_formed;
+use slots::Slots;
 use text::answers::print;
 use text::parts::count_before;
-use text::requests::parse;
 
-// One line of a journal; `formed` is what the test of the rules says of the register.
-fn act(r: Register, formed: bool, line: &[u8]) -> Reply
-    requires { ⌜ formed ≡ wellFormed r ⌝ }
-    ensures { λ z. ⌜ effectOf z ≡ lineEffect r (now (line .entry)) ⌝ }
-{
-    let parsed = parse(line);
-    let Parsed::Line(request) = parsed else {
-        return Reply {
-            answer: Answer::Refused(Refusal::Malformed),
-            register: r,
-        };
-    };
-    if formed {
-        apply_trusted(r, request)
-    } else {
-        Reply {
-            answer: Answer::Refused(Refusal::Broken),
-            register: r,
-        }
-    }
-}
+mod step;
 
-// The lines of an input, from any register; the output has room for 14 bytes a byte.
+// The lines of an input, from any register; the output has room for 14 bytes a byte. The register is one local, changed in
+// place: a function that took it and read an element would copy it for each line, so the elements are read and put back here.
 fn play(start: Register, input: &[u8], out: &mut [u8]) -> usize
     requires { ⌜ 14 * length (now input) ≤ length (now out) ⌝ }
     ensures { λ q. ⌜ (q ≡ length (transcript start (split 10 (now (input .entry))))) × (now (out .exit) ≡ front (transcript start (split 10 (now (input .entry)))) (now (out .entry))) × (q ≤ length (now (out .entry))) ⌝ }
 {
     let formed = well_formed(start);
+    let mut permissions = permissions_of(start);
     let mut r = start;
     let mut at: usize = 0;
     let mut to: usize = 0;
@@ -54,13 +40,66 @@ fn play(start: Register, input: &[u8], out: &mut [u8]) -> usize
         if end == input.len() {
             return to + print(&mut out[to..], Answer::Refused(Refusal::Malformed));
         }
-        let reply = act(r, formed, &input[at..end]);
-        let answer = reply.answer;
-        let n = print(&mut out[to..], answer);
-        to += n;
-        let next = reply.register;
-        r = next;
+        let step = step_of(formed, &input[at..end]);
         at = end + 1;
+        match step {
+            Step::Refuse(why) => {
+                let n = print(&mut out[to..], Answer::Refused(why));
+                to += n;
+            }
+            Step::Sweep(q) => {
+                let reply = apply_trusted(r, q);
+                let answer = reply.answer;
+                let n = print(&mut out[to..], answer);
+                to += n;
+                let next = reply.register;
+                permissions = permissions_of(next);
+                r = next;
+            }
+            Step::One(q) => {
+                let m = names_of(q);
+                let follow = m.follow;
+                let un = (m.user % 64) as usize;
+                let sn = (m.session % 64) as usize;
+                let session = r.sessions[sn];
+                let on = session.on;
+                let cn = (capability_place(follow, m.capability, on, r.count) % 256) as usize;
+                let capability = r.capabilities[cn];
+                let origin = capability.origin;
+                let rn = (role_place(follow, m.role, on, origin) % 32) as usize;
+                let pn = (parent_place(follow, m.parent, origin) % 256) as usize;
+                let role = r.roles[rn];
+                let parent = r.capabilities[pn];
+                let v = Slots {
+                    clock: r.clock,
+                    enrolled: r.enrolled,
+                    count: r.count,
+                    domain: r.domains[un],
+                    role: role,
+                    parent: parent,
+                    capability: capability,
+                    session: session,
+                };
+                let d = decide(v, &permissions, q);
+                let answer = d.answer;
+                let n = print(&mut out[to..], answer);
+                to += n;
+                let w = d.slots;
+                r.clock = w.clock;
+                r.enrolled = w.enrolled;
+                r.count = w.count;
+                r.domains[un] = w.domain;
+                let x = w.role;
+                permissions[rn] = x.permissions;
+                r.roles[rn] = x;
+                let x = w.parent;
+                r.capabilities[pn] = x;
+                let x = w.capability;
+                r.capabilities[cn] = x;
+                let x = w.session;
+                r.sessions[sn] = x;
+            }
+        }
     }
     to
 }
