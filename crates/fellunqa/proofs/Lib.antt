@@ -1,0 +1,2 @@
+-- What the entry point comes to, step by step.
+pub mod Laws
