@@ -3,5 +3,5 @@
 # independent implementation. `rt check journal` or `rt ci` builds the program. The last line is 'N passed, M failed'.
 set -u
 cd "$(dirname "$0")/.." || exit 1
-cargo build --release --offline --quiet --manifest-path compare/Cargo.toml || exit 1
-compare/target/release/compare target/bin/journal "${1:-300}"
+cargo build --release --offline --quiet --manifest-path compare/Cargo.toml --bin journals || exit 1
+compare/target/release/journals target/bin/journal "${1:-300}"

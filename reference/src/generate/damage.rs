@@ -1,11 +1,14 @@
 //! Random damage to images and registers. Damage may change nothing, and what
 //! it leaves may still keep the rules: that is for the tests to judge.
 
+mod layout;
+mod records;
+
 use super::BOUNDARIES;
 use crate::random::Random;
 use crate::register::{Capability, Origin, Register, Role, Session};
 
-/// Changes a few bytes of an image, or its length.
+/// Changes a few bytes of an image, its length, its records or its maps.
 pub fn damage_image(random: &mut Random, image: &mut Vec<u8>) {
     for _ in 0..random.between(1, 3) {
         damage_once(random, image);
@@ -15,21 +18,33 @@ pub fn damage_image(random: &mut Random, image: &mut Vec<u8>) {
 fn damage_once(random: &mut Random, image: &mut Vec<u8>) {
     let length = image.len() as u64;
     let at = random.below(length) as usize;
-    match random.below(10) {
+    match random.below(16) {
         0 => image.truncate(at),
-        1 => image.push(random.bits() as u8),
+        1 => extend(random, image),
         2 => image.insert(at, random.bits() as u8),
         3 if length > 0 => drop(image.remove(at)),
         4 if length > 0 => image[at] = random.pick(&BOUNDARIES) as u8,
         5 if length > 0 => image[at] = random.bits() as u8,
         6 if length > 0 => image.swap(at, random.below(length) as usize),
         7 if length > 0 => image[at] = image[at].wrapping_add(1),
+        8..=12 => records::damage_records(random, image),
         _ if length > 0 => image[at] ^= 1 << random.below(8),
         _ => (),
     }
 }
 
-/// Changes one field of the register to another number.
+/// Bytes after the end: one, zeros, or so many that two bytes cannot count
+/// them.
+fn extend(random: &mut Random, image: &mut Vec<u8>) {
+    match random.below(16) {
+        0 => image.resize(image.len() + 65_536, 0),
+        1..=4 => image.resize(image.len() + random.between(1, 26) as usize, 0),
+        _ => image.push(random.bits() as u8),
+    }
+}
+
+/// Changes one field of the register to another number, or moves a pass to
+/// another origin.
 pub fn damage_register(random: &mut Random, register: &mut Register) {
     match random.below(16) {
         0 => register.clock = number(random, register.clock.into()) as u32,
@@ -47,12 +62,28 @@ pub fn damage_register(random: &mut Random, register: &mut Register) {
             let at = random.below(64) as usize;
             damage_session(random, &mut register.sessions[at]);
         }
+        10 => move_capability(random, register),
         _ => {
             let last = u64::from(register.count).min(255);
             let at = random.between(0, last) as usize;
             damage_capability(random, &mut register.capabilities[at]);
         }
     }
+}
+
+/// A pass gets another pass as its origin, and the counts of creations go with
+/// it.
+fn move_capability(random: &mut Random, register: &mut Register) {
+    let count = u64::from(register.count).min(256);
+    let moved = random.below(count) as usize;
+    let upper = random.below(count) as u8;
+    if let Origin::Capability(old) = register.capabilities[moved].origin {
+        let creations = &mut register.capabilities[usize::from(old)].creations;
+        *creations = creations.wrapping_sub(1);
+    }
+    register.capabilities[moved].origin = Origin::Capability(upper);
+    let creations = &mut register.capabilities[usize::from(upper)].creations;
+    *creations = creations.wrapping_add(1);
 }
 
 /// Another number: one more or less, one bit changed, an edge, or any.

@@ -1,0 +1,8 @@
+//! What the comparisons share. The program `journals` holds the proved journal
+//! program to the independent implementation, and `entry` the C entry point.
+//! All inputs are random and seeded: a seed gives the same inputs everywhere.
+
+pub mod answers;
+pub mod registers;
+pub mod requests;
+pub mod tally;

@@ -1,0 +1,36 @@
+//! Random lines that fit a register, so that most of them are meaningful.
+
+use reference::generate::{request, Profile};
+use reference::random::Random;
+use reference::{apply_trusted, lines, Register};
+
+/// All profiles of requests.
+pub const PROFILES: [fn() -> Profile; 5] =
+    [Profile::small, Profile::crowded, Profile::deep, Profile::wide, Profile::wild];
+
+/// A line with a request for this register, in one of 12 cases damaged.
+pub fn line(random: &mut Random, register: &Register, profile: &Profile) -> Vec<u8> {
+    let mut line = lines::write(&request(random, register, profile));
+    if random.chance(1, 12) {
+        damage(random, &mut line);
+    }
+    line
+}
+
+/// A byte of the line, which has one, replaced, taken out or put in.
+pub fn damage(random: &mut Random, line: &mut Vec<u8>) {
+    let at = random.below(line.len() as u64) as usize;
+    let byte = random.pick(b" 0123456789-+\tabcdefopr\r\n\0");
+    match random.below(3) {
+        0 => line[at] = byte,
+        1 => drop(line.remove(at)),
+        _ => line.insert(at, byte),
+    }
+}
+
+/// The register follows the line, if that has a request.
+pub fn follow(register: &mut Register, line: &[u8]) {
+    if let Some(request) = line.strip_suffix(b"\n").and_then(lines::parse) {
+        let _ = apply_trusted(register, &request);
+    }
+}
