@@ -1,0 +1,52 @@
+# The C library: building, installing, the example client.
+#
+#   make lib                         proves and builds the library
+#   make install PREFIX=/usr         installs library, header and pkg-config file; DESTDIR is put before PREFIX
+#   make uninstall PREFIX=/usr       removes them
+#   make client                      builds examples/client.c against the library here
+#   make client-installed            builds it against the installed library, found by pkg-config
+#   make check-client                tests library, header, client and installation
+.POSIX:
+
+VERSION = 0.1.0
+PREFIX = /usr/local
+DESTDIR =
+ROOT = $(DESTDIR)$(PREFIX)
+LIB = target/staticlib/libfellunqa.a
+CLIENT = target/client
+
+CC = cc
+CFLAGS = -O2 -std=c11 -Wall -Wextra -pedantic
+# further libraries to link; the library itself needs none
+LIBS =
+
+lib:
+	rt staticlib fellunqa
+
+# Made only if it is not there; after a change of the sources, 'make lib' makes it anew.
+$(LIB):
+	rt staticlib fellunqa
+
+install: $(LIB)
+	mkdir -p '$(ROOT)/lib/pkgconfig' '$(ROOT)/include'
+	install -m 644 '$(LIB)' '$(ROOT)/lib/libfellunqa.a'
+	install -m 644 include/fellunqa.h '$(ROOT)/include/fellunqa.h'
+	sed -e 's|@PREFIX@|$(PREFIX)|' -e 's|@VERSION@|$(VERSION)|' fellunqa.pc.in > '$(ROOT)/lib/pkgconfig/fellunqa.pc'
+	chmod 644 '$(ROOT)/lib/pkgconfig/fellunqa.pc'
+
+uninstall:
+	rm -f '$(ROOT)/lib/libfellunqa.a' '$(ROOT)/include/fellunqa.h'
+	rm -f '$(ROOT)/lib/pkgconfig/fellunqa.pc'
+
+client: $(LIB)
+	mkdir -p target
+	$(CC) $(CFLAGS) -Iinclude -o '$(CLIENT)' examples/client.c '$(LIB)' $(LIBS)
+
+client-installed:
+	mkdir -p target
+	$(CC) $(CFLAGS) `pkg-config --cflags fellunqa` -o '$(CLIENT)' examples/client.c `pkg-config --libs fellunqa` $(LIBS)
+
+check-client:
+	bash tests/client.sh
+
+.PHONY: lib install uninstall client client-installed check-client
