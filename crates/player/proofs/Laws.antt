@@ -1,21 +1,19 @@
 -- What a line comes to; that it keeps what the test of the rules says; printing into parts; a turn of the loop.
-use mathlib.Core.Path.{_≡_, refl, sym, ap, _∙_, subst}
+use mathlib.Core.Path.{_≡_, refl, sym, ap, _∙_}
 use mathlib.Core.Bool.{Bool, true, false}
 use mathlib.Core.List.{List, [], _++_}
 use mathlib.Core.Option.{Option, none, some}
 use Prim.Native.Nat.{ℕ, _+_, _-_, _*_, _≤_, _<_}
 use native.Mathlib.Omega.{arith}
-use borrow.Author.Tests.{le-leb, lt-leb, eqb-true, eqb-false}
+use borrow.Author.Tests.{le-leb, lt-leb}
 use borrow.Rule.Slice.PartMut.{putMid}
-use lib.Dec.{T, eqb}
-use lib.ListN.{length, take, drop, getD, set, length-append, length-drop, take-append-drop}
-use lib.Seq.{drop-cons, getD-set-same, getD-set-other}
+use lib.Dec.{T}
+use lib.ListN.{length, take, drop, length-append, length-drop, take-append-drop}
+use lib.Seq.{drop-cons}
 use Rattle.masks.specs.Bytes.{front, split}
 use Rattle.masks.proofs.Truth.{T→true, true→T}
 use Rattle.model.specs.declared.Register.{Register}
 use Rattle.model.specs.declared.Request.{Request}
-use Rattle.model.specs.declared.Role.{Role}
-use Rattle.model.specs.State.{blankRole, roleAuthority}
 use Rattle.model.specs.declared.Parsed.{Parsed}
 use Rattle.model.specs.declared.Parsed.the-variants.{Line, NoRequest}
 use Rattle.model.specs.Rules.{wellFormed}
@@ -27,7 +25,6 @@ use Rattle.model.specs.Journal.{requested, lineEffect, unended, transcript, jou
 use Rattle.model.proofs.Settling.{step-settled}
 use Rattle.model.proofs.Rules.{kept→, kept←}
 use Rattle.model.proofs.Running.{step-keeps}
-use Rattle.slots.proofs.TermLaws.{Column}
 use Rattle.text.specs.Parts.{before}
 use Rattle.text.specs.Writing.{written, filled}
 use Rattle.text.proofs.TranscriptLaws.{transcript-line}
@@ -147,26 +144,6 @@ module _ (start : Register) (input out₀ : List ℕ) (r : Register) (out : List
         kept = same ∙ p .kept;
         room = rw same (omega (arith, count, printed-most o, p .room, more));
       }
-
--- ---- the column of the roles' permissions
-
--- a role and its place in the column, put anew together
-pub column-put : (column : List ℕ) (roles : List Role) (i : ℕ) (x : Role) → length column ≡ 32 → length roles ≡ 32 → i < 32
-    → Column column roles → Column (set column i (x .permissions)) (set roles i x)
-unfolding roleAuthority
-column-put column roles i x lc lr l h k lk = cases (eqb k i) refl
-  where
-    here : getD (set column i (x .permissions)) i 0 ≡ roleAuthority (set roles i x) i
-    here =
-        getD-set-same column i (x .permissions) 0 (omega (arith, lc, l))
-        ∙ ap (λ (y : Role). y .permissions) (sym (getD-set-same roles i x blankRole (omega (arith, lr, l))))
-
-    cases : (b : Bool) → eqb k i ≡ b → getD (set column i (x .permissions)) k 0 ≡ roleAuthority (set roles i x) k
-    cases true e = subst (λ (j : ℕ). getD (set column i (x .permissions)) j 0 ≡ roleAuthority (set roles i x) j) (sym (eqb-true k i e)) here
-    cases false e =
-        getD-set-other column i k (x .permissions) 0 (eqb-false k i e)
-        ∙ h k lk
-        ∙ ap (λ (y : Role). y .permissions) (sym (getD-set-other roles i k x blankRole (eqb-false k i e)))
 
 -- ---- the whole journal
 

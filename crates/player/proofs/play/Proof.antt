@@ -16,6 +16,7 @@ use Rattle.model.specs.Journal.{lineEffect}
 use Rattle.model.proofs.Rules.{kept→}
 use Rattle.slots.specs.Slots.{put, lifted, ruledOf}
 use Rattle.slots.proofs.TermLaws.{Column}
+use Rattle.calls.proofs.Columns.{column-put}
 use Rattle.calls.proofs.Commits.{placed, commit}
 use Rattle.text.specs.Parts.{before}
 use Rattle.text.proofs.AnswerLaws.{printed-most}
@@ -23,7 +24,7 @@ use Rattle.text.proofs.PartLaws.{tail}
 use Rattle.text.proofs.TranscriptLaws.{transcript-last, transcript-done}
 use Rattle.player.specs.declared.step.Step.the-variants.{Refuse}
 use Rattle.player.specs.Steps.{Fits}
-use Rattle.player.proofs.Laws.{Playing, turn, no-wrap, line-done, formed-after, column-put, length-tail, answer-last, answer-size, placed-nil, unended-some}
+use Rattle.player.proofs.Laws.{Playing, turn, no-wrap, line-done, formed-after, length-tail, answer-last, answer-size, placed-nil, unended-some}
 use borrow.Author.Needs.{needs}
 use Rattle.player.proofs.play.Statement.{statement}
 use Rattle.player.proofs.play.Tie as tie
@@ -184,7 +185,7 @@ loop-again-3 c =
     let place : c .before .before .before .before .before .before .before .before .before .before .before .before .before .before .before .role-place .result % 32 < 32 = mod-lt _ (omega arith) in (
       turn (a .start) (a .input .now) (a .out .now) (l .r) (l .out) (l .at) (l .to) (l .inv .0) _ (ends (c .before .before .before .before .before .before .before .before .before .before .before .before .before .before .before .before .before .before .before .before .before .before .before .before .before)) (short (c .before .before .before .before .before .before .before .before .before .before .before .before .before .before .before .before .before .before .before .before .before .before .before .before .before)) _ _ e _ _ (c .before .before .before .before .before .before .before .print4 .ensures) (c .before .before .before .before .before .before .out4 .given .1),
       formed-after (l .r) _ _ (l .inv .1) e,
-      column-put (l .permissions) (l .r .roles) _ _ (l .inv .3) roles place (l .inv .2),
+      column-put (l .permissions) (l .r .roles) _ _ (l .inv .2) (l .inv .3) roles place,
       length-set (l .permissions) _ _ ∙ l .inv .3,
     )
 

@@ -1,0 +1,2 @@
+-- What is done of a list of requests, and what is still to be done, give the whole.
+pub mod Laws

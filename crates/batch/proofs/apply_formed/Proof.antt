@@ -1,0 +1,152 @@
+-- `batch::apply_formed` meets its contract.
+use borrow.Author.Needs.{needs}
+use mathlib.Core.Path.{_≡_, refl, ap, _∙_}
+use Prim.Native.Nat.{_-_, _≤_}
+use native.Mathlib.Omega.{arith}
+use lib.ListN.{length, getD, length-set}
+use Rattle.model.specs.Calls.{settled}
+use Rattle.model.specs.Requests.{effectOf}
+use Rattle.model.proofs.Rules.{kept→}
+use Rattle.slots.specs.Slots.{put, lifted, ruledOf}
+use Rattle.calls.proofs.Columns.{column-put}
+use Rattle.calls.proofs.Commits.{placed, commit}
+use Rattle.calls.proofs.Tasks.{called, fits}
+use Rattle.batch.proofs.Laws.{noItem, Playing, playing-start, playing-more, playing-done}
+use Rattle.batch.proofs.apply_formed.Statement.{statement}
+use Rattle.batch.proofs.apply_formed.Tie as tie
+
+abbrev Inv-loop : tie.InvT-loop
+Inv-loop n items r₀ permissions₀ answers₀ i₀ r permissions answers i = (i ≤ n) × Playing r₀ items n r permissions answers i
+
+abbrev μ-loop : tie.MeasureT-loop
+μ-loop n items r₀ permissions₀ answers₀ i₀ r permissions answers i = n - i
+
+loop-holds : tie.Need-loop-holds Inv-loop μ-loop
+loop-holds c =
+    let a = c .before .before .args in (
+      omega arith,
+      playing-start (a .start) (a .t2) (a .n) _ _ (c .before .before .pre .1) (search needs) (c .before .before .pre .0)
+          (c .before .permissions-of .ensures) (search needs) (search needs) (c .no-answers .ensures),
+    )
+
+mul-answers : tie.Need-mul-answers Inv-loop μ-loop
+mul-answers c = let test = c .before .before .before .before .before .before .before .before .before .before .before .before .before .before .before .before .before .before .before .before .before .before .before in omega (arith, test .loop-test .taken, test .before .loop .inv .1 .within)
+
+array-set-from-answers : tie.Need-array-set-from-answers Inv-loop μ-loop
+array-set-from-answers c = let test = c .before .before .before .before .before .before .before .before .before .before .before .before .before .before .before .before .before .before .before .before .before .before .before in omega (arith, test .loop-test .taken, test .before .loop .inv .1 .within)
+
+loop-less : tie.Need-loop-less Inv-loop μ-loop
+loop-less c = omega (arith, c .before .before .before .before .before .before .before .before .before .before .before .before .before .before .before .before .before .before .before .before .before .before .before .loop-test .taken)
+
+-- a call that changes only elements that it names
+loop-again : tie.Need-loop-again Inv-loop μ-loop
+unfolding put
+loop-again c =
+    let decided = c .before .before .before .before .before in
+    let parent = decided .before .before .before .before .before in
+    let role = parent .before in
+    let capability = role .before .before in
+    let names = capability .before .before .before .before in
+    let task = names .before .before in
+    let asked = task .before .before in
+    let test = asked .before .before in
+    let l = test .before .loop in
+    let a = test .before .before .before .before .args in
+    let k = l .inv .1 in
+    let m = names .names-of .result in
+    let at = capability .capability-place .result in
+    let from = role .role-place .result in
+    let up = parent .parent-place .result in
+    let d = decided .decide .result in
+    let request = getD (a .t2) (l .i) noItem .request in
+    let roles : length (l .r .roles) ≡ 32 = kept→ (l .r) (k .formed) .roles .amount in
+    let same = commit (l .r) m at from up (l .permissions) (task .task .given .0 .0) d (k .formed) (k .column)
+    (fits request _ _ (asked .task-of .ensures) (task .task .given .1))
+    (names .names-of .ensures) (capability .capability-place .ensures) (role .role-place .ensures) (parent .parent-place .ensures) (decided .decide .ensures) in (
+      omega (arith, test .loop-test .taken),
+      playing-more (a .start) (a .t2) (a .n) (l .r) (l .permissions) (l .answers) (l .i) k (lifted (l .r) (placed (l .r) m at from up) (ruledOf d)) _ _ (test .loop-test .taken)
+          (same ∙ ap (settled (l .r)) (called request _ _ (asked .task-of .ensures) (task .task .given .1)))
+          refl
+          (column-put (l .permissions) (l .r .roles) _ (d .slots .role) (k .column) (k .columns) roles (omega arith))
+          (length-set (l .permissions) _ _ ∙ k .columns),
+    )
+
+apply-trusted-requires : tie.Need-apply-trusted-requires Inv-loop μ-loop
+apply-trusted-requires c κs = c .before .before .before .before .loop .inv .1 .formed
+
+loop-less-2 : tie.Need-loop-less-2 Inv-loop μ-loop
+loop-less-2 c = omega (arith, c .before .before .before .before .before .before .loop-test .taken)
+
+-- a call over the whole tree
+loop-again-2 : tie.Need-loop-again-2 Inv-loop μ-loop
+loop-again-2 c =
+    let called = c .before .before in
+    let test = called .before .before .before .before in
+    let l = test .before .loop in
+    let a = test .before .before .before .before .args in (
+      omega (arith, test .loop-test .taken),
+      playing-more (a .start) (a .t2) (a .n) (l .r) (l .permissions) (l .answers) (l .i) (l .inv .1)
+          (effectOf (called .apply-trusted .result)) (c .permissions-of2 .result) _ (test .loop-test .taken) (called .apply-trusted .ensures) refl (c .permissions-of2 .ensures) (search needs),
+    )
+
+returns : tie.Need-returns Inv-loop μ-loop
+returns c =
+    let a = c .before .before .before .before .args in
+    let l = c .before .loop in
+    playing-done (a .start) (a .t2) (a .n) (l .r) (l .permissions) (l .answers) (l .i) (l .inv .1) (omega (arith, c .loop-test .left))
+
+pub apply-formed-spec : {M : Type 1} → statement M
+apply-formed-spec =
+    tie.close
+    (tie.spec
+    Inv-loop
+    μ-loop
+    (λ c κs. search needs)
+    (λ c κs. search needs)
+    loop-holds
+    (λ c. search needs)
+    (λ c. search needs)
+    (λ c. search needs)
+    (λ c κs. search needs)
+    (λ c. search needs)
+    (λ c κs. search needs)
+    (λ c. search needs)
+    (λ c. search needs)
+    (λ c. search needs)
+    (λ c. search needs)
+    (λ c κs. search needs)
+    (λ c. search needs)
+    (λ c. search needs)
+    (λ c. search needs)
+    (λ c κs. search needs)
+    (λ c. search needs)
+    (λ c κs. search needs)
+    (λ c. search needs)
+    (λ c. search needs)
+    (λ c. search needs)
+    (λ c. search needs)
+    (λ c. search needs)
+    (λ c. search needs)
+    (λ c κs. search needs)
+    (λ c. search needs)
+    (λ c. search needs)
+    (λ c. search needs)
+    (λ c. search needs)
+    (λ c. search needs)
+    (λ c. search needs)
+    (λ c. search needs)
+    (λ c. search needs)
+    (λ c. search needs)
+    (λ c. search needs)
+    (λ c. search needs)
+    mul-answers
+    array-set-from-answers
+    loop-less
+    loop-again
+    apply-trusted-requires
+    (λ c κs. search needs)
+    (λ c. search needs)
+    (λ c. search needs)
+    loop-less-2
+    loop-again-2
+    returns)

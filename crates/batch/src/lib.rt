@@ -1,0 +1,165 @@
+// A list of at most 64 requests, from any register: each gets the register that the one before it left. What is answered is the
+// definition over lists, `run` and `answers`.
+ghost use mathlib.Core.Path.{_≡_};
+ghost use mathlib.Core.List.{_++_};
+ghost use Prim.Native.Nat.{_-_, _≤_, min};
+ghost use lib.Dec.{T};
+ghost use lib.ListN.{replicate};
+ghost use Rattle.model.specs.Rules.{wellFormed};
+ghost use Rattle.model.specs.Rulings.{value, refused};
+ghost use Rattle.model.specs.Lists.{run};
+ghost use Rattle.batch.specs.Batch.{callsOf, outcomesOf, paddedAnswers};
+use calls::apply::apply_trusted;
+use calls::one::decide;
+use model::Answer;
+use model::Refusal;
+use model::Register;
+use model::Request;
+use places::Task;
+use places::capability_place;
+use places::names_of;
+use places::parent_place;
+use places::role_place;
+use places::task_of;
+use revocation::columns::permissions_of;
+use rules::well_formed;
+use slots::Slots;
+
+// One request of a list.
+pub struct Item {
+    pub request: Request,
+}
+
+// One answer.
+pub struct Told {
+    pub answer: Answer,
+}
+
+// The register after the list, and an answer for each request; `Value(0)` in the places after them.
+pub struct Played {
+    pub register: Register,
+    pub answers: [Told; 64],
+}
+
+fn at_most_64(count: usize) -> usize
+    ensures { λ n. ⌜ n ≡ min 64 count ⌝ }
+{
+    if count < 64 { count } else { 64 }
+}
+
+fn no_answers() -> [Told; 64]
+    ensures { λ z. ⌜ outcomesOf z ≡ replicate 64 (value 0) ⌝ }
+{
+    let none = Told {
+        answer: Answer::Value(0),
+    };
+    [none; 64]
+}
+
+// n refusals with 15: a register that breaks a rule refuses every request, and stays as it is.
+fn refusals(n: usize) -> [Told; 64]
+    requires { ⌜ n ≤ 64 ⌝ }
+    ensures { λ z. ⌜ outcomesOf z ≡ replicate n (refused 15) ++ replicate (64 - n) (value 0) ⌝ }
+{
+    let mut answers = no_answers();
+    let broken = Told {
+        answer: Answer::Refused(Refusal::Broken),
+    };
+    let mut i: usize = 0;
+    while i < n {
+        answers[i] = broken;
+        i = i + 1;
+    }
+    answers
+}
+
+// The first n requests, on a register that is known to be well-formed. The elements that a request names are read, decided and put
+// back in the loop itself, which is long for that reason: a function for it would copy the register at each call. `permissions` is
+// what each role grants, and is kept in step with the register. The calls over the whole tree go by value.
+fn apply_formed(start: Register, items: [Item; 64], n: usize) -> Played
+    requires { ⌜ T (wellFormed start) ⌝ }
+    requires { ⌜ n ≤ 64 ⌝ }
+    ensures { λ z. ⌜ (z .register ≡ run start (callsOf n items)) × (outcomesOf (z .answers) ≡ paddedAnswers start n items) ⌝ }
+{
+    let mut r = start;
+    let mut permissions = permissions_of(start);
+    let mut answers = no_answers();
+    let mut i: usize = 0;
+    while i < n {
+        let at = i;
+        i = i + 1;
+        let item = items[at];
+        let request = item.request;
+        let task = task_of(request);
+        if let Task::One(q) = task {
+            let m = names_of(q);
+            let follow = m.follow;
+            let un = (m.user % 64) as usize;
+            let sn = (m.session % 64) as usize;
+            let session = r.sessions[sn];
+            let on = session.on;
+            let cn = (capability_place(follow, m.capability, on, r.count) % 256) as usize;
+            let capability = r.capabilities[cn];
+            let origin = capability.origin;
+            let rn = (role_place(follow, m.role, on, origin) % 32) as usize;
+            let pn = (parent_place(follow, m.parent, origin) % 256) as usize;
+            let role = r.roles[rn];
+            let parent = r.capabilities[pn];
+            let v = Slots {
+                clock: r.clock,
+                enrolled: r.enrolled,
+                count: r.count,
+                domain: r.domains[un],
+                role: role,
+                parent: parent,
+                capability: capability,
+                session: session,
+            };
+            let d = decide(v, &permissions, q);
+            let w = d.slots;
+            r.clock = w.clock;
+            r.enrolled = w.enrolled;
+            r.count = w.count;
+            r.domains[un] = w.domain;
+            let x = w.role;
+            r.roles[rn] = x;
+            permissions[rn] = x.permissions;
+            let y = w.parent;
+            r.capabilities[pn] = y;
+            let z = w.capability;
+            r.capabilities[cn] = z;
+            let s = w.session;
+            r.sessions[sn] = s;
+            let decided = d.answer;
+            answers[at] = Told { answer: decided };
+        } else {
+            let reply = apply_trusted(r, request);
+            let next = reply.register;
+            r = next;
+            let column = permissions_of(r);
+            permissions = column;
+            let answer = reply.answer;
+            answers[at] = Told { answer: answer };
+        }
+    }
+    Played {
+        register: r,
+        answers: answers,
+    }
+}
+
+// The first `count` requests of the items, all 64 where `count` is more. The rules are tested once: each call keeps them.
+pub fn apply_all(start: Register, items: [Item; 64], count: usize) -> Played
+    ensures { λ z. ⌜ (z .register ≡ run start (callsOf count items)) × (outcomesOf (z .answers) ≡ paddedAnswers start count items) ⌝ }
+{
+    let n = at_most_64(count);
+    if well_formed(start) {
+        apply_formed(start, items, n)
+    } else {
+        let answers = refusals(n);
+        Played {
+            register: start,
+            answers: answers,
+        }
+    }
+}
