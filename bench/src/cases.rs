@@ -1,0 +1,107 @@
+//! The calls of the entry point that are measured.
+
+use crate::registers::{creation, grown, with_passes, Shape, Size, FULL, HALF};
+use reference::{encode, Register};
+use std::fs;
+use std::io;
+use std::path::Path;
+
+/// The numbers of passes over which the growth is shown.
+pub const GROWTH: [usize; 4] = [16, 64, 128, 256];
+
+/// One call: a register, its image, and a line.
+pub struct Case {
+    pub name: String,
+    /// What SQLite's tables are filled from.
+    #[cfg_attr(not(feature = "sqlite"), allow(dead_code))]
+    pub register: Register,
+    pub image: Vec<u8>,
+    pub line: Vec<u8>,
+}
+
+impl Case {
+    fn new(name: &str, register: Register, line: &str) -> Case {
+        let image = encode(&register);
+        Case { name: name.to_string(), register, image, line: format!("{line}\n").into_bytes() }
+    }
+}
+
+/// A read, a small change, a creation and the revocation of both trees.
+pub fn calls() -> Vec<Case> {
+    let mut cases = vec![
+        Case::new("fresh: check (refused, 3)", Register::fresh(), "check 0 4"),
+        Case::new("fresh: enrol", Register::fresh(), "enrol 3 0"),
+    ];
+    cases.extend(calls_on("half", HALF));
+    cases.extend(calls_on("full", FULL));
+    cases
+}
+
+fn calls_on(name: &str, size: Size) -> Vec<Case> {
+    let mut cases = vec![
+        check(name, size),
+        Case::new(&format!("{name}: hand"), grown(size, Shape::Deep), "hand 3 2 100"),
+    ];
+    cases.extend(changes(name, size));
+    cases
+}
+
+fn check(name: &str, size: Size) -> Case {
+    let line = format!("check {} 4", size.sessions - 1);
+    Case::new(&format!("{name}: check"), grown(size, Shape::Deep), &line)
+}
+
+/// The creation of the last pass, and the revocation of all.
+fn changes(name: &str, size: Size) -> [Case; 3] {
+    let last = size.passes - 1;
+    let before = Size { passes: last, ..size };
+    let create = creation(last, Shape::Deep);
+    [
+        Case::new(&format!("{name}: create"), grown(before, Shape::Deep), &create),
+        Case::new(&format!("{name}: revoke, deep"), grown(size, Shape::Deep), "revoke 3 0"),
+        Case::new(&format!("{name}: revoke, wide"), grown(size, Shape::Wide), "revoke 3 0"),
+    ]
+}
+
+/// For each register, the line that yields no request: only the load is done;
+/// and the line that changes nothing: load and save are done.
+pub fn images() -> Vec<[Case; 2]> {
+    let registers = [
+        ("fresh", Register::fresh()),
+        ("half", grown(HALF, Shape::Deep)),
+        ("full", grown(FULL, Shape::Deep)),
+    ];
+    registers
+        .map(|(name, register)| {
+            let clock = format!("clock {}", register.clock);
+            [Case::new(name, register.clone(), ""), Case::new(name, register, &clock)]
+        })
+        .into()
+}
+
+/// The same calls over a growing number of passes, call by call.
+pub fn growth() -> Vec<Vec<Case>> {
+    let at = |passes: &usize| {
+        let size = with_passes(*passes);
+        let [create, deep, wide] = changes("growth", size);
+        [check("growth", size), create, deep, wide]
+    };
+    let mut rows: Vec<Vec<Case>> = Vec::new();
+    rows.resize_with(4, Vec::new);
+    for cases in GROWTH.iter().map(at) {
+        for (row, case) in rows.iter_mut().zip(cases) {
+            row.push(case);
+        }
+    }
+    rows
+}
+
+/// Writes images and lines of the calls into the folder, under their numbers.
+pub fn write_all(folder: &Path) -> io::Result<()> {
+    for (number, case) in calls().into_iter().enumerate() {
+        fs::write(folder.join(format!("{number:02}.image")), &case.image)?;
+        fs::write(folder.join(format!("{number:02}.line")), &case.line)?;
+        fs::write(folder.join(format!("{number:02}.name")), &case.name)?;
+    }
+    Ok(())
+}
