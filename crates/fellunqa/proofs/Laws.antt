@@ -14,6 +14,7 @@ use lib.Dec.{T, eqb, leb, ltb, lt→ltb}
 use lib.IntN.{ℤ, pos, negsuc, negℤ, _-ℤ_, +ℤ-idl}
 use lib.ListN.{length, take, drop, length-append, drop-of-length-le, getD}
 use lib.Seq.{drop-at, drop-cons, drop-drop, length-take-le}
+use Rattle.buffers.proofs.Parts.{placed}
 use Rattle.masks.specs.Bytes.{front, onto, split}
 use Rattle.masks.proofs.Truth.{T→true, T→false, true→T, le→nltb}
 use Rattle.image.specs.declared.Loaded.{Loaded}
@@ -38,7 +39,6 @@ use Rattle.model.proofs.Running.{step-keeps, loads-kept}
 use Rattle.model.proofs.Settling.{step-settled}
 use Rattle.text.specs.Parts.{before, after}
 use Rattle.text.proofs.PartLaws.{take-before, split-before, after-more, after-end}
-use Rattle.image.proofs.Parts.{placed}
 
 -- ---- the line
 

@@ -1,15 +1,15 @@
 -- Numbers and maps as bytes, at every width: what was written is read again. Comparing bytes.
 use mathlib.Core.Path.{_≡_, refl, sym, ap, _∙_}
-use mathlib.Core.Bool.{Bool, true, false, _&&_}
+use mathlib.Core.Bool.{true}
 use mathlib.Core.List.{List, [], _∷_, _++_}
-use Prim.Native.Nat.{ℕ, zero, suc, _+_, _-_, _*_, _/_, _%_, _^_, _≤_, _<_}
+use Prim.Native.Nat.{ℕ, zero, suc, _+_, _-_, _*_, _/_, _%_, _^_, _<_}
 use native.Mathlib.Nat.{pow-suc, pow-succ', mul-assoc, add-assoc, add-mul, mod-eq-of-lt, zero-mul, div-one, div-div-eq-div-mul, one-le-pow, not-suc-le-zero, le-of-suc-le-suc}
 use native.Mathlib.Omega.{arith}
 use lib.Arith.{mod-mul}
-use lib.Dec.{lit<, eqb}
+use lib.Dec.{lit<}
 use lib.ListN.{length, getD}
 use lib.Pow.{field, mod-mod-pow, shr-shr, pow-add}
-use borrow.Author.Tests.{eqb-true, eq-eqb}
+use borrow.Author.Tests.{eq-eqb}
 use Rattle.masks.specs.Bytes.{bytesOf, numberFrom, numberOf, mapBytes, maskOf, firstBytes, sameBytes}
 
 -- ---- numbers
@@ -95,26 +95,6 @@ map-item k n j h =
     ∙ ap (λ (i : ℕ). bitAt n i) e
 
 -- ---- comparing
-
-no : _≡_ {A = ℕ} 0 1 → ⊥
-no z = omega arith
-
-pub and-left : (b c : Bool) → (b && c) ≡ true → b ≡ true
-and-left true c h = refl
-and-left false c h = h
-
-pub and-right : (b c : Bool) → (b && c) ≡ true → c ≡ true
-and-right true c h = h
-and-right false c h = let z : _≡_ {A = ℕ} 0 1 = cc in absurd (no z)
-
-pub same-eq : (a b : List ℕ) → sameBytes a b ≡ true → a ≡ b
-same-eq [] [] h = refl
-same-eq [] (y ∷ ys) h = let z : _≡_ {A = ℕ} 0 1 = cc in absurd (no z)
-same-eq (x ∷ xs) [] h = let z : _≡_ {A = ℕ} 0 1 = cc in absurd (no z)
-same-eq (x ∷ xs) (y ∷ ys) h =
-    let e : x ≡ y = eqb-true x y (and-left (eqb x y) (sameBytes xs ys) h) in
-    let r = same-eq xs ys (and-right (eqb x y) (sameBytes xs ys) h) in
-    cc
 
 pub same-refl : (a : List ℕ) → sameBytes a a ≡ true
 same-refl [] = refl

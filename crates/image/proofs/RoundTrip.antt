@@ -1,14 +1,13 @@
 -- A register that keeps the rules is read again from its image, and only such images are accepted.
 use mathlib.Core.Path.{_≡_, refl, sym, ap, _∙_}
-use mathlib.Core.Bool.{Bool, not, _&&_}
-use mathlib.Core.Logic.{_↔_}
-use mathlib.Core.List.{List, [], _∷_, _++_, append-nil}
-use Prim.Native.Nat.{ℕ, zero, suc, _+_, _-_, _*_, _/_, _%_, _^_, _≤_, _<_, min}
+use mathlib.Core.List.{List, [], _++_, append-nil}
+use Prim.Native.Nat.{ℕ, _+_, _-_, _*_, _/_, _%_, _^_, _≤_, _<_, min}
 use native.Mathlib.Nat.{min-eq-right}
 use native.Mathlib.Omega.{arith}
 use lib.Dec.{T, eqb}
-use lib.ListN.{length, take, drop, getD, replicate, length-append, length-take, length-drop, length-replicate, getD-replicate, take-append-drop}
+use lib.ListN.{length, take, drop, getD, replicate, length-append, length-drop, length-replicate, getD-replicate, take-append-drop}
 use lib.Seq.{drop-at, length-take-le, getD-take, getD-drop, ext-getD}
+use Rattle.buffers.proofs.Comparing.{same-eq}
 use Rattle.masks.specs.Masks.{has}
 use Rattle.masks.specs.Bytes.{bytesOf, numberOf, mapBytes, firstBytes, sameBytes}
 use Rattle.masks.proofs.Truth.{true→T, T→true, and-l, and-r, and-i}
@@ -18,12 +17,12 @@ use Rattle.model.specs.declared.Session.{Session}
 use Rattle.model.specs.declared.Register.{Register}
 use Rattle.model.specs.State.{blankRole, blankCapability, blankSession}
 use Rattle.model.specs.Rules.{wellFormed}
-use Rattle.model.specs.Invariant.{WellFormed, CapabilityRanges}
+use Rattle.model.specs.Invariant.{WellFormed}
 use Rattle.model.specs.Fields.{writeRole, readRole, writeSession, readSession}
 use Rattle.model.specs.Image.{writeChosen, writeCapabilities, readChosen, readCapabilities, afterCapabilities, afterChosen, mapAt, foundedRoles, activeSessions, encode, decode, loads}
 use Rattle.model.proofs.Rules.{formed→}
 use Rattle.image.specs.Laws.{ImageOf, ImageLaws}
-use Rattle.image.proofs.Numbers.{length-bytes, length-map, number-back, map-item, same-eq, same-refl}
+use Rattle.image.proofs.Numbers.{length-bytes, length-map, number-back, map-item, same-refl}
 use Rattle.image.proofs.Sections.{Kept, kept, Section, section-back, where-small, has-where, chosen-small}
 use Rattle.image.proofs.Records.{domain-good, role-good, role-size, session-good, session-size, AllInRange, in-range, capabilities-back, capabilities-after, capabilities-small}
 

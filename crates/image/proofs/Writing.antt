@@ -1,13 +1,13 @@
 -- A loop that writes one item after another, each into the part that follows the item before it.
 use mathlib.Core.Path.{_≡_, refl, sym, ap, _∙_}
-use mathlib.Core.List.{List, [], _∷_, _++_}
+use mathlib.Core.List.{List, [], _++_}
 use Prim.Native.Nat.{ℕ, _+_, _-_, _≤_}
 use native.Mathlib.Nat.{zero-add}
 use native.Mathlib.Omega.{arith}
 use lib.ListN.{length, take, drop, length-append}
 use borrow.Rule.Slice.PartMut.{putMid}
+use Rattle.buffers.proofs.Parts.{placed, placed-nil, placed-append, length-tail, tail-step}
 use Rattle.masks.specs.Bytes.{front}
-use Rattle.image.proofs.Parts.{placed, placed-nil, placed-append, length-tail, tail-step}
 
 -- what is left, written from `at` on, makes s the start s₀ with all of it at the front
 pub record Writing (whole rest : List ℕ) (at : ℕ) (s s₀ : List ℕ) : Type 0 where

@@ -2,7 +2,7 @@
 ghost use mathlib.Core.Path.{_≡_};
 ghost use Prim.Native.Nat.{_<_, _≤_, _^_};
 ghost use lib.ListN.{length, drop, getD};
-ghost use Rattle.masks.specs.Bytes.{bytesOf, numberOf, mapBytes, maskOf, firstBytes, front, sameBytes};
+ghost use Rattle.masks.specs.Bytes.{bytesOf, numberOf, mapBytes, maskOf, firstBytes, front};
 ghost use Rattle.image.specs.Codes.{Bytes};
 
 // Writes n as k bytes, high byte first, at the front of s.
@@ -66,23 +66,6 @@ pub fn get_map(s: &[u8], at: usize, k: usize) -> u64
         x = x * 256 + byte_at(s, at + i);
     }
     x
-}
-
-// Whether two slices have the same bytes.
-pub fn same_bytes(a: &[u8], b: &[u8]) -> bool
-    ensures { λ r. ⌜ r ≡ sameBytes (now (a .entry)) (now (b .entry)) ⌝ }
-{
-    if a.len() != b.len() {
-        return false;
-    }
-    let mut i = 0;
-    while i < a.len() {
-        if a[i] != b[i] {
-            return false;
-        }
-        i += 1;
-    }
-    true
 }
 
 // The length of s, all of whose items are bytes.

@@ -1,15 +1,16 @@
 -- What a line comes to; that it keeps what the test of the rules says; printing into parts; a turn of the loop.
 use mathlib.Core.Path.{_≡_, refl, sym, ap, _∙_}
 use mathlib.Core.Bool.{Bool, true, false}
-use mathlib.Core.List.{List, [], _++_}
+use mathlib.Core.List.{List, _++_}
 use mathlib.Core.Option.{Option, none, some}
 use Prim.Native.Nat.{ℕ, _+_, _-_, _*_, _≤_, _<_}
 use native.Mathlib.Omega.{arith}
 use borrow.Author.Tests.{le-leb, lt-leb}
 use borrow.Rule.Slice.PartMut.{putMid}
 use lib.Dec.{T}
-use lib.ListN.{length, take, drop, length-append, length-drop, take-append-drop}
+use lib.ListN.{length, take, drop, length-append}
 use lib.Seq.{drop-cons}
+use Rattle.buffers.proofs.Parts.{placed, placed-append, tail-back, length-tail}
 use Rattle.masks.specs.Bytes.{front, split}
 use Rattle.masks.proofs.Truth.{T→true, true→T}
 use Rattle.model.specs.declared.Register.{Register}
@@ -29,8 +30,6 @@ use Rattle.text.specs.Parts.{before}
 use Rattle.text.specs.Writing.{written, filled}
 use Rattle.text.proofs.TranscriptLaws.{transcript-line}
 use Rattle.text.proofs.AnswerLaws.{printed-room, printed-most}
-use Rattle.text.proofs.PartLaws.{tail}
-use Rattle.text.proofs.WriteLaws.{placed, placed-append, tail-back}
 use Rattle.calls.proofs.Tasks.{broken}
 use Rattle.player.specs.Play.{journalLength, journalBuffer}
 
@@ -74,9 +73,6 @@ formed-after r line z h e = h ∙ sym (line-formed r line) ∙ ap (λ (y : Effec
 
 -- ---- printing into the part of the output that follows what is printed
 
-pub length-tail : (at : ℕ) (s : List ℕ) → length (take (length s - at) (drop at s)) ≡ length s - at
-length-tail at s = ap length (tail at s) ∙ length-drop at s
-
 -- an answer printed at `at`, and the texts after it
 pub answer-step : (at : ℕ) (o : Outcome) (ys s whole last : List ℕ) → placed at (printed o ++ ys) s ≡ whole → at + 14 ≤ length s
     → last ≡ written (printed o) (take (length s - at) (drop at s)) → placed (at + length (printed o)) ys (putMid at (length s - at) s last) ≡ whole
@@ -95,10 +91,6 @@ answer-last at o s last room e = tail-back at (printed o) s last (e ∙ printed-
 -- how many bytes an answer takes
 pub answer-size : (at : ℕ) (o : Outcome) (s : List ℕ) {n : ℕ} → at + 14 ≤ length s → n ≡ filled (printed o) (take (length s - at) (drop at s)) → n ≡ length (printed o)
 answer-size at o s room e = e ∙ printed-room o _ (omega (arith, length-tail at s)) .1
-
--- nothing printed leaves the output as it is
-pub placed-nil : (at : ℕ) (s : List ℕ) → placed at [] s ≡ s
-placed-nil at s = take-append-drop at s
 
 -- something follows the last line feed
 pub unended-some : (s : List ℕ) (at : ℕ) → at < length s → unended (drop at s) ≡ printed (refused 1)

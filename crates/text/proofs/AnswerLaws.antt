@@ -8,12 +8,12 @@ use native.Mathlib.Omega.{arith}
 use borrow.Author.Tests.{lt-ltb, le-ltb}
 use lib.Dec.{ltb}
 use lib.ListN.{length, take, drop, set, length-append, take-append-drop}
+use Rattle.buffers.proofs.Parts.{placed, placed-append, back-step}
 use Rattle.masks.specs.Bytes.{front}
 use Rattle.model.specs.Rulings.{Outcome, value, refused}
-use Rattle.model.specs.Words.{okWord, noWord}
 use Rattle.model.specs.Lines.{digitsOf, digitCount, decimal, answerLine, printed}
 use Rattle.text.specs.Writing.{written, filled}
-use Rattle.text.proofs.WriteLaws.{placed, placed-append, back-step, written-room, filled-room}
+use Rattle.text.proofs.WriteLaws.{written-room, filled-room}
 
 -- ---- how many digits
 

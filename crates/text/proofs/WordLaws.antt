@@ -1,13 +1,14 @@
 -- Laws of the request words.
-use mathlib.Core.Path.{_≡_, refl, sym, ap, _∙_}
-use mathlib.Core.Bool.{true, false}
-use mathlib.Core.List.{List, [], _∷_}
+use mathlib.Core.Path.{_≡_, refl, ap}
+use mathlib.Core.Bool.{true}
+use mathlib.Core.List.{List}
 use mathlib.Core.Option.{none}
 use Prim.Native.Nat.{ℕ, _≤_}
 use native.Mathlib.Omega.{arith}
 use lib.Dec.{lit<}
 use lib.ListN.{take}
 use lib.Seq.{getD-take}
+use Rattle.buffers.proofs.Comparing.{same-eq}
 use Rattle.masks.specs.Bytes.{sameBytes}
 use Rattle.model.specs.Lines.{Form, forms, byWord, ofNumbers, createIn, openIn, amendIn}
 use Rattle.text.specs.Spelling.{asks, arity, plainCall}
@@ -17,7 +18,6 @@ use Rattle.text.specs.declared.words.Three.the-variants.{Allow, Lend, Ha
 use Rattle.text.specs.declared.words.Plain.{Plain}
 use Rattle.text.specs.declared.words.Plain.the-variants.{Single, Pair, Triple, Found}
 use Rattle.text.specs.declared.words.Word.the-variants.{Numbers, Create, Open, Amend, NoWord}
-use Rattle.text.proofs.PartLaws.{same-eq}
 
 -- a word that is the same as x is looked up as x
 pub hit : (w x : List ℕ) (fs : List Form) → sameBytes w x ≡ true → (args : List (List ℕ)) → byWord w args fs ≡ byWord x args fs

@@ -8,7 +8,7 @@ use crate::numbers::Decimal;
 use crate::numbers::read_decimal;
 use crate::numbers::read_numbers;
 use crate::parts::first_word;
-use crate::parts::same_bytes;
+use buffers::same_bytes;
 use model::Change;
 use model::Named;
 

@@ -1,8 +1,7 @@
-// Parts of a line, and bytes compared with fixed words.
+// Parts of a line.
 ghost use mathlib.Core.Path.{_≡_};
 ghost use Prim.Native.Nat.{_≤_};
 ghost use lib.ListN.{length};
-ghost use Rattle.masks.specs.Bytes.{sameBytes};
 ghost use Rattle.text.specs.Parts.{before, firstWord};
 
 // How many bytes of s stand before the first that equals b, or in all of it: where a line ends, with b = 10.
@@ -25,21 +24,4 @@ pub fn first_word<'a>(line: &'a [u8]) -> &'a [u8]
 {
     let n = count_before(line, b' ');
     &line[..n]
-}
-
-// Two words are the same, byte by byte.
-pub fn same_bytes(a: &[u8], b: &[u8]) -> bool
-    ensures { λ r. ⌜ r ≡ sameBytes (now (a .entry)) (now (b .entry)) ⌝ }
-{
-    if a.len() != b.len() {
-        return false;
-    }
-    let mut i = 0;
-    while i < a.len() {
-        if a[i] != b[i] {
-            return false;
-        }
-        i += 1;
-    }
-    true
 }

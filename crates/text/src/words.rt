@@ -5,7 +5,7 @@ ghost use Prim.Native.Nat.{ℕ};
 ghost use lib.ListN.{drop};
 ghost use Rattle.model.specs.Lines.{forms, byWord};
 ghost use Rattle.text.specs.Spelling.{asks};
-use crate::parts::same_bytes;
+use buffers::same_bytes;
 
 // Words that one number follows.
 pub enum One {

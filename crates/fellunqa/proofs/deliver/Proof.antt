@@ -7,10 +7,10 @@ use borrow.Rule.Slice.PartMut.{putMid, put-same}
 use mir.Syntax.{w64}
 use mir.ValLaws.{toZ-pos}
 use lib.ListN.{length}
+use Rattle.buffers.proofs.Parts.{length-tail, tail-back}
 use Rattle.masks.specs.Bytes.{bytesOf, front}
 use Rattle.model.specs.Image.{encode, savedBuffer}
 use Rattle.model.specs.Requests.{outcomeOf}
-use Rattle.image.proofs.Parts.{length-tail, tail-back}
 use Rattle.fellunqa.proofs.Laws.{head-last, save-said, save-unsaid, fitted-room, fitted-none, leaves-by}
 use borrow.Author.Needs.{needs}
 use Rattle.fellunqa.proofs.deliver.Statement.{statement}

@@ -7,6 +7,7 @@ use native.Mathlib.Nat.{mod-lt}
 use native.Mathlib.Omega.{arith}
 use lib.Dec.{T}
 use lib.ListN.{length, take, drop, length-set}
+use Rattle.buffers.proofs.Parts.{tail, length-tail, placed-nil}
 use Rattle.masks.proofs.Truth.{true→T}
 use Rattle.model.specs.declared.Refusal.{Refusal}
 use Rattle.model.specs.Rules.{wellFormed}
@@ -20,11 +21,10 @@ use Rattle.calls.proofs.Columns.{column-put}
 use Rattle.calls.proofs.Commits.{placed, commit}
 use Rattle.text.specs.Parts.{before}
 use Rattle.text.proofs.AnswerLaws.{printed-most}
-use Rattle.text.proofs.PartLaws.{tail}
 use Rattle.text.proofs.TranscriptLaws.{transcript-last, transcript-done}
 use Rattle.player.specs.declared.step.Step.the-variants.{Refuse}
 use Rattle.player.specs.Steps.{Fits}
-use Rattle.player.proofs.Laws.{Playing, turn, no-wrap, line-done, formed-after, length-tail, answer-last, answer-size, placed-nil, unended-some}
+use Rattle.player.proofs.Laws.{Playing, turn, no-wrap, line-done, formed-after, answer-last, answer-size, unended-some}
 use borrow.Author.Needs.{needs}
 use Rattle.player.proofs.play.Statement.{statement}
 use Rattle.player.proofs.play.Tie as tie

@@ -4,10 +4,10 @@ use mathlib.Core.List.{[]}
 use Prim.Native.Nat.{_≤_, _-_, _+_}
 use native.Mathlib.Omega.{arith}
 use lib.ListN.{length, drop, getD, length-append, drop-of-length-le}
+use Rattle.buffers.proofs.Parts.{placed, placed-nil, length-tail, tail-step}
 use Rattle.masks.specs.Bytes.{front}
 use Rattle.model.specs.Fields.{writeSet, writePresent}
 use Rattle.image.specs.Codes.{codingOf, codings}
-use Rattle.image.proofs.Parts.{placed, placed-nil, length-tail, tail-step}
 use Rattle.image.proofs.Codes.{present-step}
 use borrow.Author.Needs.{needs}
 use Rattle.image.proofs.field.put_present.Statement.{statement}

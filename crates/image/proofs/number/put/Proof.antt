@@ -5,8 +5,9 @@ use mathlib.Core.List.{_++_}
 use Prim.Native.Nat.{_≤_, _-_, _/_, _^_}
 use native.Mathlib.Omega.{arith}
 use lib.ListN.{length, take, drop, length-set}
+use Rattle.buffers.proofs.Parts.{div-start, div-step}
 use Rattle.masks.specs.Bytes.{bytesOf}
-use Rattle.image.proofs.Parts.{put-start, div-start, put-step, div-step, put-done}
+use Rattle.image.proofs.Parts.{put-start, put-step, put-done}
 use Rattle.image.proofs.number.put.Statement.{statement}
 use Rattle.image.proofs.number.put.Tie as tie
 

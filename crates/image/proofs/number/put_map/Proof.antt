@@ -5,10 +5,9 @@ use Prim.Native.Nat.{_-_, _≤_}
 use native.Mathlib.Omega.{arith}
 use lib.ListN.{length, length-set}
 use borrow.Author.Needs.{needs}
+use Rattle.buffers.proofs.Parts.{placed, placed-nil}
 use Rattle.masks.specs.Bytes.{front}
-use Rattle.image.proofs.Parts.{placed}
 use Rattle.masks.specs.Bytes.{mapBytes}
-use Rattle.image.proofs.Parts.{placed-nil}
 use Rattle.image.proofs.Parts.{map-turn}
 use native.Mathlib.Nat.{sub-zero}
 use Rattle.image.proofs.number.put_map.Statement.{statement}

@@ -4,9 +4,10 @@ use mathlib.Core.List.{List}
 use Prim.Native.Nat.{ℕ, _≤_}
 use native.Mathlib.Omega.{arith}
 use lib.ListN.{length}
+use Rattle.buffers.proofs.Parts.{length-tail}
 use Rattle.masks.specs.Bytes.{front}
 use Rattle.image.specs.Codes.{writeHead, writeFields}
-use Rattle.image.proofs.Parts.{length-tail, two-parts}
+use Rattle.image.proofs.Parts.{two-parts}
 use Rattle.image.proofs.Tables.{present-writes, present-amount, capability-parts, head-length, capability-size}
 use borrow.Author.Needs.{needs}
 use Rattle.image.proofs.record.put_capability.Statement.{statement}

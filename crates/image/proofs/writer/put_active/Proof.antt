@@ -4,12 +4,13 @@ use mathlib.Core.List.{List}
 use Prim.Native.Nat.{ℕ, _≤_}
 use native.Mathlib.Omega.{arith}
 use lib.ListN.{length}
+use Rattle.buffers.proofs.Parts.{length-tail}
 use Rattle.masks.specs.Bytes.{mapBytes, front}
 use Rattle.model.specs.Fields.{writeSession}
 use Rattle.model.specs.Image.{writeChosen}
 use Rattle.image.specs.Codes.{mapped}
 use Rattle.image.proofs.Numbers.{length-map}
-use Rattle.image.proofs.Parts.{length-tail, two-parts}
+use Rattle.image.proofs.Parts.{two-parts}
 use Rattle.image.proofs.Whole.{mapped-parts, mapped-size}
 use borrow.Author.Needs.{needs}
 use Rattle.image.proofs.writer.put_active.Statement.{statement}

@@ -4,10 +4,11 @@ use mathlib.Core.List.{List}
 use Prim.Native.Nat.{ℕ, _≤_}
 use native.Mathlib.Omega.{arith}
 use lib.ListN.{length, take}
+use Rattle.buffers.proofs.Parts.{length-tail}
 use Rattle.masks.specs.Bytes.{bytesOf, front}
 use Rattle.model.specs.Image.{writeCapabilities}
 use Rattle.image.proofs.Numbers.{length-bytes}
-use Rattle.image.proofs.Parts.{length-tail, two-parts}
+use Rattle.image.proofs.Parts.{two-parts}
 use Rattle.image.proofs.Whole.{counted-parts, counted-size}
 use borrow.Author.Needs.{needs}
 use Rattle.image.proofs.writer.put_counted.Statement.{statement}

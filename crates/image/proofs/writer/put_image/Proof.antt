@@ -4,10 +4,10 @@ use mathlib.Core.List.{List, [], _++_, append-nil}
 use Prim.Native.Nat.{ℕ, _≤_}
 use native.Mathlib.Omega.{arith}
 use lib.ListN.{length}
+use Rattle.buffers.proofs.Parts.{length-tail}
 use Rattle.masks.specs.Bytes.{bytesOf}
 use Rattle.model.specs.Image.{encode}
 use Rattle.image.proofs.Numbers.{length-bytes}
-use Rattle.image.proofs.Parts.{length-tail}
 use Rattle.image.proofs.Writing.{writing-first, writing-step, writing-done}
 use Rattle.image.proofs.Whole.{usersBytes, rolesBytes, capabilitiesBytes, sessionsBytes, encode-sections, sections-size}
 use borrow.Author.Needs.{needs}

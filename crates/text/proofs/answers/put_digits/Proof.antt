@@ -6,7 +6,7 @@ use Prim.Native.Nat.{_-_, _/_, _^_, _≤_}
 use native.Mathlib.Omega.{arith}
 use lib.ListN.{length, take, drop, length-set}
 use borrow.Author.Needs.{needs}
-use Rattle.text.proofs.WriteLaws.{div-start, div-step}
+use Rattle.buffers.proofs.Parts.{div-start, div-step}
 use Rattle.model.specs.Lines.{digitsOf}
 use Rattle.text.proofs.AnswerLaws.{digits-first, digit-turn, digits-last}
 use Rattle.text.proofs.answers.put_digits.Statement.{statement}

@@ -6,8 +6,9 @@ use Prim.Native.Nat.{ℕ, _+_, _-_, _≤_, _<_}
 use native.Mathlib.Omega.{arith}
 use lib.ListN.{length}
 use borrow.Rule.Slice.PartMut.{putMid}
+use Rattle.buffers.proofs.Parts.{tail-back}
 use Rattle.model.specs.Lines.{digitsOf, answerLine}
-use Rattle.text.proofs.WriteLaws.{tail-back, written-room, filled-room, written-short, filled-short}
+use Rattle.text.proofs.WriteLaws.{written-room, filled-room, written-short, filled-short}
 use Rattle.text.proofs.AnswerLaws.{count-high, length-line, line-written}
 use borrow.Author.Needs.{needs}
 use Rattle.text.proofs.answers.put_line.Statement.{statement}

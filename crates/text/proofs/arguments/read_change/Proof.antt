@@ -3,9 +3,9 @@
 use mathlib.Core.Path.{sym, ap, _∙_}
 use mathlib.Core.List.{List}
 use Prim.Native.Nat.{ℕ}
+use Rattle.buffers.proofs.Parts.{tail}
 use Rattle.model.specs.Lines.{numeral, negative}
 use Rattle.text.specs.Readers.{valueOf}
-use Rattle.text.proofs.PartLaws.{tail}
 use Rattle.text.proofs.ArgumentLaws.{change-none, change-minus, change-plus}
 use borrow.Author.Needs.{needs}
 use Rattle.text.proofs.arguments.read_change.Statement.{statement}

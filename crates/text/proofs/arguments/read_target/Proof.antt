@@ -7,10 +7,11 @@ use native.Mathlib.Omega.{arith}
 use borrow.Author.Tests.{not-true, not-false}
 use lib.ListN.{length, drop}
 use lib.Seq.{getD-take}
+use Rattle.buffers.proofs.Parts.{tail}
 use Rattle.model.specs.Lines.{numbers}
 use Rattle.text.specs.Parts.{after}
 use Rattle.text.specs.Readers.{nameOf, valuesOf, targetBy, targetIn}
-use Rattle.text.proofs.PartLaws.{tail, after-none, next-word, next-fits}
+use Rattle.text.proofs.PartLaws.{after-none, next-word, next-fits}
 use borrow.Author.Needs.{needs}
 use Rattle.text.proofs.arguments.read_target.Statement.{statement}
 use Rattle.text.proofs.arguments.read_target.Tie as tie

@@ -5,11 +5,11 @@ use mathlib.Core.List.{List}
 use Prim.Native.Nat.{ℕ}
 use lib.ListN.{length, drop}
 use borrow.Author.Needs.{needs}
+use Rattle.buffers.proofs.Parts.{tail}
 use Rattle.model.specs.Lines.{numeral}
 use Rattle.text.specs.Parts.{firstWord}
 use Rattle.text.specs.Readers.{valueOf, taken, numberIn}
 use Rattle.text.specs.declared.numbers.Decimal.{Decimal}
-use Rattle.text.proofs.PartLaws.{tail}
 use Rattle.text.proofs.NumberLaws.{number-none, number-word}
 use Rattle.text.proofs.numbers.read_number.Statement.{statement}
 use Rattle.text.proofs.numbers.read_number.Tie as tie

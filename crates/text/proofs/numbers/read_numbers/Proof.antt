@@ -5,11 +5,11 @@ use Prim.Native.Nat.{ℕ, _+_, _-_, _≤_}
 use native.Mathlib.Omega.{arith}
 use native.Mathlib.Nat.{sub-zero}
 use lib.ListN.{length, take, drop, length-drop, length-set}
+use Rattle.buffers.proofs.Parts.{tail}
 use Rattle.model.specs.Lines.{numbers}
 use Rattle.text.specs.Parts.{after}
 use Rattle.text.specs.Readers.{numberIn, prepend}
 use Rattle.text.specs.declared.numbers.Number.the-variants.{Read}
-use Rattle.text.proofs.PartLaws.{tail}
 use Rattle.text.proofs.NumberLaws.{number-fits, prepend-nil, numbers-wrong, numbers-more, numbers-end}
 use borrow.Author.Needs.{needs}
 use Rattle.text.proofs.numbers.read_numbers.Statement.{statement}

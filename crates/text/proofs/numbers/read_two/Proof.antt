@@ -4,9 +4,9 @@ use mathlib.Core.Path.{_≡_, sym, ap, _∙_}
 use Prim.Native.Nat.{_≤_}
 use native.Mathlib.Omega.{arith}
 use lib.ListN.{length, drop, length-drop}
+use Rattle.buffers.proofs.Parts.{tail}
 use Rattle.text.specs.Readers.{numberIn}
 use Rattle.text.specs.declared.numbers.Number.the-variants.{Read}
-use Rattle.text.proofs.PartLaws.{tail}
 use Rattle.text.proofs.NumberLaws.{number-fits}
 use borrow.Author.Needs.{needs}
 use Rattle.text.proofs.numbers.read_two.Statement.{statement}

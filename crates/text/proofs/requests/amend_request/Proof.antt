@@ -5,12 +5,12 @@ use mathlib.Core.List.{List}
 use mathlib.Core.Option.{some}
 use Prim.Native.Nat.{ℕ, _≤_}
 use lib.ListN.{length}
+use Rattle.buffers.proofs.Parts.{tail}
 use Rattle.model.specs.Lines.{andThen, amendIn}
 use Rattle.model.specs.Calls.{amend}
 use Rattle.text.specs.Parts.{after}
 use Rattle.text.specs.Readers.{twoIn, byOf, lastChange}
 use Rattle.text.specs.declared.numbers.TwoNumbers.the-variants.{Both}
-use Rattle.text.proofs.PartLaws.{tail}
 use Rattle.text.proofs.NumberLaws.{two-first, two-fits}
 use Rattle.text.proofs.ArgumentLaws.{amend-by}
 use borrow.Author.Needs.{needs}

@@ -6,11 +6,11 @@ use mathlib.Core.Option.{some}
 use Prim.Native.Nat.{ℕ, _≤_}
 use borrow.Author.Tests.{not-true, not-false}
 use lib.ListN.{length}
+use Rattle.buffers.proofs.Parts.{tail}
 use Rattle.model.specs.Lines.{andThen, createIn}
 use Rattle.text.specs.Parts.{after}
 use Rattle.text.specs.Readers.{numberIn, targetOf, targetIn}
 use Rattle.text.specs.declared.numbers.Number.the-variants.{Read}
-use Rattle.text.proofs.PartLaws.{tail}
 use Rattle.text.proofs.NumberLaws.{number-first, number-fits}
 use Rattle.text.proofs.ArgumentLaws.{created, created-take, create-by}
 use borrow.Author.Needs.{needs}

@@ -6,11 +6,11 @@ use mathlib.Core.Option.{some}
 use Prim.Native.Nat.{ℕ, _≤_}
 use borrow.Author.Tests.{not-true, not-false}
 use lib.ListN.{length}
+use Rattle.buffers.proofs.Parts.{tail}
 use Rattle.model.specs.Lines.{andThen, openIn}
 use Rattle.text.specs.Parts.{after}
 use Rattle.text.specs.Readers.{twoIn, targetOf, targetIn}
 use Rattle.text.specs.declared.numbers.TwoNumbers.the-variants.{Both}
-use Rattle.text.proofs.PartLaws.{tail}
 use Rattle.text.proofs.NumberLaws.{two-first, two-fits}
 use Rattle.text.proofs.ArgumentLaws.{opened, opened-take, open-by}
 use borrow.Author.Needs.{needs}

@@ -4,10 +4,11 @@ use mathlib.Core.Path.{sym, ap, _∙_}
 use mathlib.Core.List.{List}
 use Prim.Native.Nat.{ℕ, _≤_}
 use lib.ListN.{length, drop}
+use Rattle.buffers.proofs.Parts.{tail}
 use Rattle.model.specs.Lines.{forms, byWord, request, parse}
 use Rattle.text.specs.Parts.{after}
 use Rattle.text.specs.Spelling.{asks}
-use Rattle.text.proofs.PartLaws.{tail, length-before, split-before}
+use Rattle.text.proofs.PartLaws.{length-before, split-before}
 use borrow.Author.Needs.{needs}
 use Rattle.text.proofs.requests.parse.Statement.{statement}
 use Rattle.text.proofs.requests.parse.Tie as tie

@@ -1,14 +1,13 @@
--- `text::parts::same_bytes` meets its contract.
--- Assumes nothing.
+-- `buffers::same_bytes` meets its contract.
 use mathlib.Core.Path.{_≡_, sym, _∙_}
 use Prim.Native.Nat.{_-_, _≤_}
 use native.Mathlib.Omega.{arith}
 use lib.ListN.{length, drop}
 use borrow.Author.Needs.{needs}
+use Rattle.buffers.proofs.Comparing.{same-more, same-less, same-long, same-done}
 use Rattle.masks.specs.Bytes.{sameBytes}
-use Rattle.text.proofs.PartLaws.{same-more, same-less, same-long, same-done}
-use Rattle.text.proofs.parts.same_bytes.Statement.{statement}
-use Rattle.text.proofs.parts.same_bytes.Tie as tie
+use Rattle.buffers.proofs.same_bytes.Statement.{statement}
+use Rattle.buffers.proofs.same_bytes.Tie as tie
 
 abbrev Inv-loop : tie.InvT-loop
 Inv-loop a b i₀ i = (i ≤ length a) × (length a ≡ length b) × (sameBytes (drop i a) (drop i b) ≡ sameBytes a b)
