@@ -2,7 +2,7 @@
 pub mod amending;
 pub mod columns;
 pub mod comparing;
-pub mod lineage;
+mod lineage;
 pub mod revoking;
-pub mod sweeps;
+mod sweeps;
 pub mod withdrawing;
