@@ -4,7 +4,7 @@ use mathlib.Core.Bool.{Bool, true, cond, _&&_}
 use mathlib.Core.List.{List, [], _∷_}
 use Prim.Native.Nat.{ℕ, _%_, _^_, _<_, _≤_}
 use native.Mathlib.Nat.{mod-eq-of-lt}
-use borrow.Author.Tests.{lt-ltb, eq-eqb}
+use borrow.Author.Tests.{lt-ltb, le-ltb, eq-eqb}
 use lib.Bits.{bitOr}
 use lib.Dec.{T, eqb, leb, ltb, ltb→lt, leb→le}
 use lib.ListN.{getD, length}
@@ -21,9 +21,9 @@ use Rattle.model.specs.State.{Terms, terms, claims, below, exists, authority, l
 use Rattle.model.specs.Lineage.{children}
 use Rattle.model.specs.Rules.{isOrigin, isUser, isDomain, bits, userKeeps, roleBlank, sameDomain, roleKeeps, capabilityBlank, rangeTests, inRange, allFounded, earlier, ownKeeps, capabilityKeeps, placeKeeps, sessionBlank, sessionKeeps, wellFormed}
 use Rattle.rules.specs.declared.limits.Limits.{Limits}
-use Rattle.rules.specs.Columns.{masked, isFounded, inDomain}
+use Rattle.rules.specs.Columns.{masked, isFounded, inDomain, BlankFrom}
 use Rattle.rules.specs.Limits.{numberOf, limitsOf, asTerms, roleKeepsWith, placeWith, sessionKeepsWith}
-use Rattle.rules.proofs.Laws.{fromLeft, left-each, all-below, each-under, joined-same, within-masked}
+use Rattle.rules.proofs.Laws.{fromLeft, left-each, all-below, all-rest, each-under, joined-same, within-masked}
 
 -- ---- origins: a role's number is below 32
 
@@ -135,6 +135,13 @@ session-agrees enrolled roles count cs i k s u at-k at-u =
         (limits-admit roles count cs (s .on) k (s .hour) (s .place) (s .device) at-k (h .1 .0))
 
 -- ---- the register
+
+-- places that are known to be blank keep the rules
+pub blank-rest : (r : Register) (b : ℕ) → b ≤ 256 → BlankFrom r b
+    → allBelow b (λ n. placeKeeps (r .enrolled) (r .roles) (r .count) (r .capabilities) n (capabilityAt (r .capabilities) n))
+    ≡ allBelow 256 (λ n. placeKeeps (r .enrolled) (r .roles) (r .count) (r .capabilities) n (capabilityAt (r .capabilities) n))
+unfolding placeKeeps capabilityBlank
+blank-rest r b l h = all-rest b 256 _ l (λ n g k. rw (le-ltb n (r .count) (h n g k .0), h n g k .1))
 
 pub register-agrees : (r : Register) (users roles capabilities sessions : Bool) → r .clock < 2 ^ 32
     → r .enrolled < 2 ^ 64

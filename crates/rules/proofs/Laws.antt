@@ -10,14 +10,14 @@ use native.Mathlib.Numerals.{add-one}
 use native.Mathlib.Omega.{arith}
 use borrow.Author.Count.{below-more}
 use borrow.Author.Tests.{lt-ltb, le-ltb, eq-eqb, eqb-false}
-use lib.Bits.{bitOr}
+use lib.Bits.{bitOr, or-zero-r}
 use lib.Dec.{T, not-T, lit<, eqb, ltb, eqb→eq, eqb-refl, lt→ltb}
 use lib.ListN.{length, getD, set}
 use lib.Pow.{shl-exact, pow-mono}
 use lib.Seq.{getD-set-same, getD-set-other}
 use Rattle.masks.specs.Masks.{has, within, joined}
 use Rattle.masks.specs.Tests.{each, implies, allBelow, allFrom}
-use Rattle.masks.proofs.Truth.{Each, T→false, and-r, and-i, implies-i, implies-e, decided, same-test}
+use Rattle.masks.proofs.Truth.{Each, true→T, T→false, and-r, and-i, implies-i, implies-e, decided, same-test}
 use Rattle.masks.proofs.Bounded.{allBelow-at, allBelow-i, all-at, all-i}
 use Rattle.masks.proofs.MaskLaws.{has-zero, has-or, has-single, has-lt, within-refl, within-le, within-has, has-within}
 use Rattle.masks.proofs.JoinLaws.{joined-least, joined-has}
@@ -75,6 +75,15 @@ pub all-more : (n : ℕ) (p : ℕ → Bool) {x y : Bool} → x ≡ allBelow n p 
 unfolding allBelow
 all-more n p e f = rw add-one (f ∙ ap (λ (b : Bool). b && p n) e)
 
+-- the numbers from n on are known to pass
+pub all-rest : (n m : ℕ) (p : ℕ → Bool) → n ≤ m → ((k : ℕ) → n ≤ k → k < m → p k ≡ true) → allBelow n p ≡ allBelow m p
+all-rest n m p l rest =
+    same-test _ _ (λ t. allBelow-i m p (λ k g. cases t k g (decLt k n))) (λ t. allBelow-i n p (λ k g. allBelow-at m p t k (omega arith)))
+  where
+    cases : T (allBelow n p) → (k : ℕ) → k < m → Dec (k < n) → T (p k)
+    cases t k g (yes b) = allBelow-at n p t k b
+    cases t k g (no b) = true→T (p k) (rest k (omega arith) g)
+
 pub masked-more : (n : ℕ) (p : ℕ → Bool) {x y : ℕ} → x ≡ masked p n → y ≡ bitOr x (cond (p n) (2 ^ n) 0) → y ≡ masked p (n + 1)
 unfolding masked
 masked-more n p e f = rw add-one (f ∙ ap (λ (m : ℕ). bitOr m (cond (p n) (2 ^ n) 0)) e)
@@ -110,6 +119,31 @@ column-more f l i v h p e =
     below-more (λ k. getD (set l i v) k 0 ≡ f k) i
     (λ k b. getD-set-other l i k v 0 (λ z. absurd (omega arith)) ∙ p k b)
     (getD-set-same l i v 0 h ∙ e)
+
+-- masks of the numbers below n, one for each value below 8 that a number can have: one number more
+pub groups-more : (value : ℕ → ℕ) (l : List ℕ) (n k : ℕ) → length l ≡ 8
+    → ((d : ℕ) → d < 8 → getD l d 0 ≡ masked (λ (u : ℕ). eqb (value u) d) n) → k ≡ value n % 8
+    → (d : ℕ) → d < 8 → getD (set l k (bitOr (getD l k 0) (cond (ltb (value n) 8) (2 ^ n) 0))) d 0 ≡ masked (λ (u : ℕ). eqb (value u) d) (n + 1)
+groups-more value l n k size known ek d less = masked-more n (λ (u : ℕ). eqb (value u) d) (known d less) (cases (decided (eqb d k)))
+  where
+    differs : (a b : ℕ) → (a ≡ b → ⊥) → eqb a b ≡ false
+    differs a b h = T→false (eqb a b) (not-T (eqb a b) (λ t. h (eqb→eq a b t)))
+
+    same : d ≡ k → Dec (value n < 8) → ltb (value n) 8 ≡ eqb (value n) d
+    same e (yes h) = lt-ltb (value n) 8 h ∙ sym (eq-eqb (value n) d (omega arith))
+    same e (no h) = le-ltb (value n) 8 (omega arith) ∙ sym (differs (value n) d (λ z. absurd (omega arith)))
+
+    cases : T (eqb d k) ⊎ T (not (eqb d k)) → getD (set l k (bitOr (getD l k 0) (cond (ltb (value n) 8) (2 ^ n) 0))) d 0 ≡ bitOr (getD l d 0) (cond (eqb (value n) d) (2 ^ n) 0)
+    cases (inl t) =
+        let e : d ≡ k = eqb→eq d k t in
+        ap (λ (j : ℕ). getD (set l k (bitOr (getD l k 0) (cond (ltb (value n) 8) (2 ^ n) 0))) j 0) e
+        ∙ getD-set-same l k _ 0 (omega arith)
+        ∙ ap₂ (λ (j : ℕ) (b : Bool). bitOr (getD l j 0) (cond b (2 ^ n) 0)) (sym e) (same e (decLt (value n) 8))
+    cases (inr t) =
+        let e : eqb d k ≡ false = T→false (eqb d k) t in
+        getD-set-other l k d _ 0 (λ z. absurd (omega (arith, eqb-false d k e)))
+        ∙ sym (or-zero-r (getD l d 0))
+        ∙ ap (λ (b : Bool). bitOr (getD l d 0) (cond b (2 ^ n) 0)) (sym (differs (value n) d (λ z. absurd (omega (arith, eqb-false d k e)))))
 
 -- ---- lists and masks
 

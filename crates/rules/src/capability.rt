@@ -102,9 +102,10 @@ pub fn keeps_place(
     }
 }
 
-// The rules of all places, up to the first that breaks them.
-pub fn capabilities_keep(r: Register) -> bool
-    ensures { λ q. ⌜ (r .count ≤ 256 → q ≡ allBelow 256 (λ n. placeKeeps (r .enrolled) (r .roles) (r .count) (r .capabilities) n (capabilityAt (r .capabilities) n))) ⌝ }
+// The rules of the places below the bound, up to the first that breaks them.
+pub fn capabilities_keep(r: Register, bound: usize) -> bool
+    requires { ⌜ bound ≤ 256 ⌝ }
+    ensures { λ q. ⌜ (r .count ≤ 256 → q ≡ allBelow bound (λ n. placeKeeps (r .enrolled) (r .roles) (r .count) (r .capabilities) n (capabilityAt (r .capabilities) n))) ⌝ }
 {
     let roles = r.roles;
     let permissions = role_permissions(roles);
@@ -113,7 +114,7 @@ pub fn capabilities_keep(r: Register) -> bool
     let enrolled = r.enrolled;
     let count = r.count;
     let mut i: usize = 0;
-    while i < 256 {
+    while i < bound {
         let c = r.capabilities[i];
         let o = c.origin;
         let k = number_of(o);

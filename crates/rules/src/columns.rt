@@ -67,28 +67,16 @@ pub fn lent_authority(permissions: &[u32; 32], mask: u32) -> u32
     }
 }
 
-// The users of domain d.
-pub fn users_of(domains: &[u8; 64], d: u8) -> u64
-    ensures { λ q. ⌜ q ≡ masked (inDomain (now (domains .entry)) d) 64 ⌝ }
-{
-    let mut mask: u64 = 0;
-    let mut i: usize = 0;
-    while i < 64 {
-        mask = mask | single(domains[i] == d, i);
-        i = i + 1;
-    }
-    mask
-}
-
 // The users of each domain.
 pub fn domain_users(domains: &[u8; 64]) -> [u64; 8]
     ensures { λ q. ⌜ ((d : ℕ) → d < 8 → getD q d 0 ≡ masked (inDomain (now (domains .entry)) d) 64) ⌝ }
 {
     let mut table = [0u64; 8];
-    let mut d: u8 = 0;
-    while d < 8 {
-        table[d as usize] = users_of(domains, d);
-        d = d + 1;
+    let mut i: usize = 0;
+    while i < 64 {
+        let d = (domains[i] % 8) as usize;
+        table[d] = table[d] | single(domains[i] < 8, i);
+        i = i + 1;
     }
     table
 }

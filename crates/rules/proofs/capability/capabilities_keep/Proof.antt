@@ -17,11 +17,11 @@ use Rattle.rules.proofs.capability.capabilities_keep.Statement.{stateme
 use Rattle.rules.proofs.capability.capabilities_keep.Tie as tie
 
 abbrev Inv-loop : tie.InvT-loop
-Inv-loop r roles permissions founded table enrolled count i₀ i =
-    (i ≤ 256) × (r .count ≤ 256 → true ≡ allBelow i (λ n. placeKeeps (r .enrolled) (r .roles) (r .count) (r .capabilities) n (capabilityAt (r .capabilities) n)))
+Inv-loop bound r roles permissions founded table enrolled count i₀ i =
+    (i ≤ bound) × (r .count ≤ 256 → true ≡ allBelow i (λ n. placeKeeps (r .enrolled) (r .roles) (r .count) (r .capabilities) n (capabilityAt (r .capabilities) n)))
 
 abbrev μ-loop : tie.MeasureT-loop
-μ-loop r roles permissions founded table enrolled count i₀ i = 256 - i
+μ-loop bound r roles permissions founded table enrolled count i₀ i = bound - i
 
 loop-holds : tie.Need-loop-holds Inv-loop μ-loop
 unfolding allBelow
@@ -50,7 +50,7 @@ found c few =
 returns : tie.Need-returns Inv-loop μ-loop
 returns c few =
     let l = c .before .before .before .before .before .before .before .before .before .before .before .loop in
-    all-fails 256 (l .i) _ (omega arith) (sym (found (c .before) few) ∙ not-true _ (c .if1 .taken))
+    all-fails _ (l .i) _ (omega arith) (sym (found (c .before) few) ∙ not-true _ (c .if1 .taken))
 
 loop-again : tie.Need-loop-again Inv-loop μ-loop
 loop-again c =
@@ -61,7 +61,7 @@ returns-2 : tie.Need-returns-2 Inv-loop μ-loop
 returns-2 c few =
     let r = c .before .before .before .before .before .before .args .t1 in
     c .before .loop .inv .1 few
-    ∙ ap (λ n. allBelow n (λ n. placeKeeps (r .enrolled) (r .roles) (r .count) (r .capabilities) n (capabilityAt (r .capabilities) n))) {x = c .before .loop .i} {y = 256} (omega arith)
+    ∙ ap (λ n. allBelow n (λ n. placeKeeps (r .enrolled) (r .roles) (r .count) (r .capabilities) n (capabilityAt (r .capabilities) n))) {x = c .before .loop .i} (omega arith)
 
 pub capabilities-keep-spec : {M : Type 1} → statement M
 capabilities-keep-spec =
