@@ -1,3 +1,4 @@
--- Laws of writing into parts of a buffer, and of comparing bytes.
+-- Laws of writing into parts of a buffer, of writing digits, and of comparing bytes.
 pub mod Parts
+pub mod Digits
 pub mod Comparing

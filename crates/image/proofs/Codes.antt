@@ -1,8 +1,7 @@
 -- Codings as numbers, and a law for each turn of a loop over fields.
-use mathlib.Core.Path.{_≡_, refl, sym, ap, _∙_}
-use mathlib.Core.Bool.{Bool, true, false, cond, _&&_}
+use mathlib.Core.Path.{_≡_, refl, ap, _∙_}
 use mathlib.Core.List.{List, [], _∷_, _++_}
-use Prim.Native.Nat.{ℕ, zero, suc, _+_, _-_, _*_, _/_, _%_, _^_, _≤_, _<_}
+use Prim.Native.Nat.{ℕ, zero, suc, _+_, _-_, _*_, _/_, _%_, _≤_, _<_}
 use native.Mathlib.Nat.{not-suc-le-zero, le-of-suc-le-suc}
 use native.Mathlib.Numerals.{add-one, sub-one}
 use native.Mathlib.Omega.{arith}
@@ -12,10 +11,10 @@ use lib.Pow.{pow-mono}
 use lib.Seq.{drop-cons, drop-drop}
 use Rattle.masks.specs.Bytes.{bytesOf, numberOf, firstBytes}
 use Rattle.masks.proofs.Truth.{T→true, T→false, le→nltb, and-l, and-r}
-use Rattle.model.specs.Fields.{Coding, plain, bitmap, mark, width, written, readField, writeAll, readAll, isSet, fieldMap, writeSet, writePresent, readSet, readPresent, presentLength}
+use Rattle.model.specs.Fields.{Coding, bitmap, width, written, readField, readAll, isSet, fieldMap, writeSet, readSet, readPresent, presentLength}
 use Rattle.image.specs.Codes.{numberCoding, codingOf, codings, narrow}
 use Rattle.image.proofs.Parts.{fill-step}
-use Rattle.image.proofs.Fields.{map-small, isSet-le}
+use Rattle.image.proofs.Fields.{map-small}
 
 -- ---- one coding
 
@@ -73,12 +72,6 @@ module _ (codes : List ℕ) (i : ℕ) (h : i < length codes) where
 
   abbrev after : List Coding
   after = codings (drop (i + 1) codes)
-
-  pub all-step : (vs : List ℕ) → i < length vs → writeAll (codings (drop i codes)) (drop i vs) ≡ written here (getD vs i 0) ++ writeAll after (drop (i + 1) vs)
-  all-step vs hv = rw (add-one, drop-cons codes i 0, drop-cons vs i 0)
-
-  pub present-step : (vs : List ℕ) → i < length vs → writePresent (codings (drop i codes)) (drop i vs) ≡ writeSet here (getD vs i 0) ++ writePresent after (drop (i + 1) vs)
-  present-step vs hv = rw (add-one, drop-cons codes i 0, drop-cons vs i 0)
 
   -- a turn of the loop that reads all fields
   pub read-turn : (f s : List ℕ) (at v next : ℕ) (whole : List ℕ) → i < length f → v ≡ readField here (drop at s) → next ≡ width here

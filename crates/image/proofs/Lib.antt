@@ -2,9 +2,11 @@
 pub mod Numbers
 pub mod Parts
 pub mod Writing
+pub mod Putting
 pub mod Fields
 pub mod Codes
 pub mod Sections
+pub mod Marking
 pub mod Records
 pub mod Reading
 pub mod Tables

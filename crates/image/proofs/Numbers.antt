@@ -78,7 +78,7 @@ bit-of-byte x b h =
     ∙ ap (λ (j : ℕ). x / 2 ^ b % 2 ^ j % 2) (sym d)
     ∙ mod-mod-pow (x / 2 ^ b) (7 - b) 1
 
-pow-256 : (i : ℕ) → 256 ^ i ≡ 2 ^ (8 * i)
+pub pow-256 : (i : ℕ) → 256 ^ i ≡ 2 ^ (8 * i)
 pow-256 zero = refl
 pow-256 (suc i) =
     let e : 8 * i + 8 ≡ 8 * suc i = omega arith in

@@ -2,33 +2,23 @@
 use mathlib.Core.Path.{_≡_, refl, sym, ap, _∙_}
 use mathlib.Core.List.{List, [], _∷_, _++_, append-nil}
 use Prim.Native.Nat.{ℕ, zero, suc, _+_, _-_, _*_, _/_, _%_, _^_, _≤_, _<_}
-use native.Mathlib.Nat.{pow-suc, pow-le-pow-right, sub-self, sub-zero, not-suc-le-zero, zero-add, add-zero}
+use native.Mathlib.Nat.{pow-suc, pow-le-pow-right, sub-zero, zero-add, add-zero}
 use native.Mathlib.Numerals.{add-one}
 use native.Mathlib.Omega.{arith}
-use lib.ListN.{length, take, drop, getD, set, take-append-drop, replicate}
+use lib.ListN.{length, take, drop, getD, set, replicate}
 use lib.Seq.{set-split, take-suc-set, drop-set-lt, append-snoc, take-at, drop-drop, take-all}
 use lib.Arith.{digits-lt}
 use lib.Dec.{lit<}
 use borrow.Rule.Slice.PartMut.{putMid}
-use Rattle.buffers.proofs.Parts.{placed, back-step, placed-append, tail-back}
+use Rattle.buffers.proofs.Parts.{placed, placed-append, tail-back}
+use Rattle.buffers.proofs.Digits.{Digits}
 use Rattle.masks.specs.Bytes.{bytesOf, numberFrom, numberOf, mapBytes, maskOf, firstBytes, front}
-use Rattle.image.proofs.Numbers.{length-bytes}
 
--- ---- writing a number from its last byte on
+-- ---- writing a number
 
-pub put-step : (s : List ℕ) (k n i : ℕ) → 0 < i → i ≤ k → k ≤ length s
-    → set (take i s ++ (bytesOf (k - i) n ++ drop k s)) (i - 1) (n / 256 ^ (k - i) % 256) ≡ take (i - 1) s ++ (bytesOf (k - (i - 1)) n ++ drop k s)
-put-step s k n i h hi hk =
-    let e : suc (k - i) ≡ k - (i - 1) = omega arith in
-    back-step s (bytesOf (k - i) n ++ drop k s) i (n / 256 ^ (k - i) % 256) h (omega arith)
-    ∙ ap (λ (j : ℕ). take (i - 1) s ++ (bytesOf j n ++ drop k s)) e
-
-pub put-start : (s : List ℕ) (k n : ℕ) → s ≡ take k s ++ (bytesOf (k - k) n ++ drop k s)
-put-start s k n = rw sub-self (sym (take-append-drop k s))
-
-pub put-done : (s : List ℕ) (k n i : ℕ) → i ≤ 0 → take i s ++ (bytesOf (k - i) n ++ drop k s) ≡ front (bytesOf k n) s
-put-done s k n zero h = rw (sub-zero, length-bytes)
-put-done s k n (suc i) h = absurd (not-suc-le-zero h)
+-- its bytes are its digits to the base 256
+abbrev pub byte-digits : Digits
+byte-digits = record { base = 256; digit = λ x. x % 256; digits = bytesOf; none = λ n. refl; more = λ k n. refl }
 
 -- ---- reading a number byte by byte
 

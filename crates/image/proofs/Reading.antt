@@ -5,14 +5,18 @@ use Prim.Native.Nat.{ℕ, zero, suc, _+_, _-_, _*_, _/_, _%_, _^_, _≤_, _<_}
 use native.Mathlib.Nat.{pow-suc, pow-succ', mul-assoc, one-le-pow, one-mul, mul-le-mul-right}
 use native.Mathlib.Omega.{arith}
 use lib.Arith.{digits-lt}
-use lib.Dec.{lit<}
+use lib.Dec.{T, leb, lit<}
 use lib.ListN.{length, take, drop, getD, set}
 use lib.Seq.{drop-drop, getD-drop}
+use mir.Syntax.{Width}
+use mir.Val.{bits, Fits}
+use mir.Facts.{fits-bits}
 use Rattle.masks.specs.Bytes.{numberFrom, numberOf, maskOf, firstBytes}
 use Rattle.model.specs.declared.Capability.{Capability}
 use Rattle.model.specs.Fields.{Coding, plain, bitmap, mark, width, readField, readAll, readSet, readPresent, presentLength, capabilityCodings, readHead, readCapability, capabilityLength}
-use Rattle.model.specs.Image.{itemOr, readChosen, chosenLength, readCapabilities, afterCapabilities}
+use Rattle.model.specs.Image.{itemOr, readChosen, readCapabilities, afterCapabilities}
 use Rattle.image.specs.Codes.{Bytes, Fitting, Fitted}
+use Rattle.image.proofs.Numbers.{pow-256}
 use Rattle.image.proofs.Parts.{fill-step}
 
 -- ---- bytes
@@ -74,6 +78,21 @@ pub fitted-present : (m : ℕ) (cs : List Coding) (s : List ℕ) → Bytes s →
 fitted-present m [] s h i = omega arith
 fitted-present m (c ∷ cs) s h zero = fitting-set (m % 2) c s h
 fitted-present m (c ∷ cs) s h (suc i) = fitted-present (m / 2) cs (drop (m % 2 * width c) s) (bytes-drop (m % 2 * width c) s h) i
+
+-- the bits of a coding's values
+abbrev pub bitsOf : Coding → ℕ
+bitsOf (plain w) = 8 * w
+bitsOf (bitmap w) = 8 * w
+bitsOf mark = 1
+
+fitting-bits : (c : Coding) (v : ℕ) → Fitting c v → v < 2 ^ bitsOf c
+fitting-bits (plain w) v h = rw pow-256 at h
+fitting-bits (bitmap w) v h = rw pow-256 at h
+fitting-bits mark v h = h
+
+-- so field i fits every width that has the bits of its coding
+pub fitted-fits : (cs : List Coding) (f : List ℕ) → Fitted cs f → {w : Width} (i : ℕ) → T (leb (bitsOf (getD cs i mark)) (bits w)) → Fits w (getD f i 0)
+fitted-fits cs f h i t = fits-bits (bitsOf (getD cs i mark)) t (fitting-bits (getD cs i mark) (getD f i 0) (h i))
 
 -- ---- capabilities
 

@@ -7,7 +7,7 @@ use Prim.Native.Nat.{ℕ, zero, suc, _+_, _-_, _*_, _/_, _%_, _^_, _≤_, _<_}
 use native.Mathlib.Nat.{zero-mul, one-mul, div-div-eq-div-mul, pow-succ', pow-suc, div-one, not-suc-le-zero, le-of-suc-le-suc}
 use native.Mathlib.Numerals.{add-one}
 use native.Mathlib.Omega.{arith}
-use lib.Dec.{T, eqb, eqb→eq}
+use lib.Dec.{T, eqb}
 use lib.ListN.{length, drop, getD, length-append, length-drop, drop-of-length-le}
 use lib.Seq.{drop-at, drop-cons, drop-drop}
 use Rattle.masks.specs.Masks.{has}
@@ -148,13 +148,17 @@ module _ {A : Type 0} (write : A → List ℕ) where
   pub chosen-done : (m : ℕ) (l : List A) (i : ℕ) → length l ≤ i → writeChosen write m (drop i l) ≡ []
   chosen-done m l i h = ap (writeChosen write m) (drop-of-length-le l h)
 
+  pub chosen-none : (l : List A) → writeChosen write 0 l ≡ []
+  chosen-none [] = refl
+  chosen-none (a ∷ l) = chosen-none l
+
 pub chosen-set : (b : ℕ) (s : List ℕ) → (b ≡ 0 → ⊥) → chosen b s ≡ s
 chosen-set zero s h = absurd (h refl)
 chosen-set (suc b) s h = refl
 
-module _ {A : Type 0} (p : A → Bool) (l : List A) (i : ℕ) (d : A) where
-  pub where-step : 0 < i → i ≤ length l → maskWhere p (drop (i - 1) l) ≡ maskWhere p (drop i l) * 2 + bit (p (getD l (i - 1) d))
-  where-step h k =
+module _ {A : Type 0} (p : A → Bool) (l : List A) (i : ℕ) where
+  pub where-step : (d : A) → 0 < i → i ≤ length l → maskWhere p (drop (i - 1) l) ≡ maskWhere p (drop i l) * 2 + bit (p (getD l (i - 1) d))
+  where-step d h k =
       let e : i - 1 < length l = omega arith in
       let n : suc (i - 1) ≡ i = omega arith in
       let split : maskWhere p (drop (i - 1) l) ≡ bit (p (getD l (i - 1) d)) + 2 * maskWhere p (drop (suc (i - 1)) l) = ap (maskWhere p) (drop-cons l (i - 1) d e) in

@@ -3,12 +3,13 @@ use mathlib.Core.Path.{_≡_, refl, sym, ap, _∙_}
 use mathlib.Core.Bool.{Bool, true, false, cond}
 use mathlib.Core.List.{List, [], _∷_, _++_}
 use Prim.Native.Nat.{ℕ, zero, suc, _+_, _-_, _*_, _/_, _%_, _^_, _≤_, _<_}
-use native.Mathlib.Nat.{pow-suc, sub-zero, not-suc-le-zero, sub-self}
+use native.Mathlib.Nat.{pow-suc}
 use native.Mathlib.Omega.{arith}
 use borrow.Author.Tests.{lt-ltb, le-ltb}
 use lib.Dec.{ltb}
-use lib.ListN.{length, take, drop, set, length-append, take-append-drop}
-use Rattle.buffers.proofs.Parts.{placed, placed-append, back-step}
+use lib.ListN.{length, length-append}
+use Rattle.buffers.proofs.Parts.{placed, placed-append}
+use Rattle.buffers.proofs.Digits.{Digits, length-digits}
 use Rattle.masks.specs.Bytes.{front}
 use Rattle.model.specs.Rulings.{Outcome, value, refused}
 use Rattle.model.specs.Lines.{digitsOf, digitCount, decimal, answerLine, printed}
@@ -60,29 +61,14 @@ count-turn k x m h l = go (10 - k) refl
 
 -- ---- digits
 
-pub length-digits : (k n : ℕ) → length (digitsOf k n) ≡ k
-length-digits zero n = refl
-length-digits (suc k) n = ap suc (length-digits k n)
-
-pub digit-turn : (s : List ℕ) (k n i : ℕ) → 0 < i → i ≤ k → k ≤ length s
-    → set (take i s ++ (digitsOf (k - i) n ++ drop k s)) (i - 1) (48 + n / 10 ^ (k - i) % 10) ≡ take (i - 1) s ++ (digitsOf (k - (i - 1)) n ++ drop k s)
-digit-turn s k n i h hi hk =
-    let e : suc (k - i) ≡ k - (i - 1) = omega arith in
-    back-step s (digitsOf (k - i) n ++ drop k s) i (48 + n / 10 ^ (k - i) % 10) h (omega arith)
-    ∙ ap (λ (j : ℕ). take (i - 1) s ++ (digitsOf j n ++ drop k s)) e
-
-pub digits-first : (s : List ℕ) (k n : ℕ) → s ≡ take k s ++ (digitsOf (k - k) n ++ drop k s)
-digits-first s k n = rw sub-self (sym (take-append-drop k s))
-
-pub digits-last : (s : List ℕ) (k n i : ℕ) → i ≤ 0 → take i s ++ (digitsOf (k - i) n ++ drop k s) ≡ front (digitsOf k n) s
-digits-last s k n zero h = rw (sub-zero, length-digits)
-digits-last s k n (suc i) h = absurd (not-suc-le-zero h)
+abbrev pub decimal-digits : Digits
+decimal-digits = record { base = 10; digit = λ x. 48 + x % 10; digits = digitsOf; none = λ n. refl; more = λ k n. refl }
 
 -- ---- lines
 
 pub length-line : (x y n : ℕ) → length (answerLine (x ∷ y ∷ []) n) ≡ 4 + digitCount 9 n
 unfolding answerLine decimal
-length-line x y n = simp (length-append, length-digits) (omega arith)
+length-line x y n = simp (length-append, length-digits decimal-digits) (omega arith)
 
 -- a line's three parts, each after the one before it
 pub line-written : (x y n k : ℕ) (s s1 s2 s3 : List ℕ) → k ≡ digitCount 9 n → 3 + k < length s
@@ -92,7 +78,7 @@ line-written x y n k s s1 s2 s3 e room e1 e2 e3 =
     let w : List ℕ = x ∷ y ∷ 32 ∷ [] in
     let ds : List ℕ = digitsOf k n in
     let wds : List ℕ = w ++ ds in
-    let len : 0 + length wds ≡ 3 + k = omega (arith, length-digits k n) in
+    let len : 0 + length wds ≡ 3 + k = omega (arith, length-digits decimal-digits k n) in
     let two : s2 ≡ placed 0 wds s = e2 ∙ ap (placed 3 ds) e1 ∙ placed-append 0 w ds s (omega arith) in
     e3
     ∙ ap (placed (3 + k) (10 ∷ [])) two

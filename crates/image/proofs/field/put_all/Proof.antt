@@ -1,30 +1,20 @@
 -- `image::field::put_all` meets its contract.
-use mathlib.Core.Path.{_≡_, refl, sym, ap, _∙_}
-use mathlib.Core.List.{[]}
-use Prim.Native.Nat.{_≤_, _-_, _+_}
+use Prim.Native.Nat.{_-_}
 use native.Mathlib.Omega.{arith}
-use lib.ListN.{length, drop, getD, length-append, drop-of-length-le}
-use Rattle.buffers.proofs.Parts.{placed, placed-nil, length-tail, tail-step}
-use Rattle.masks.specs.Bytes.{front}
-use Rattle.model.specs.Fields.{written, writeAll}
-use Rattle.image.specs.Codes.{codingOf, codings}
-use Rattle.image.proofs.Codes.{all-step}
+use lib.ListN.{length}
+use Rattle.image.proofs.Putting.{each-field, FieldsTo, fields-start, fields-turn, fields-step, fields-done}
 use borrow.Author.Needs.{needs}
 use Rattle.image.proofs.field.put_all.Statement.{statement}
 use Rattle.image.proofs.field.put_all.Tie as tie
 
 abbrev Inv-loop : tie.InvT-loop
-Inv-loop s₀ codes values at₀ i₀ s at i =
-    (i ≤ length codes)
-    × (at + length (writeAll (codings (drop i codes)) (drop i values)) ≡ length (writeAll (codings codes) values))
-    × (placed at (writeAll (codings (drop i codes)) (drop i values)) s ≡ front (writeAll (codings codes) values) s₀)
-    × (length s ≡ length s₀)
+Inv-loop s₀ codes values at₀ i₀ s at i = FieldsTo each-field codes values s₀ s at i
 
 abbrev μ-loop : tie.MeasureT-loop
 μ-loop s₀ codes values at₀ i₀ s at i = length codes - i
 
 loop-holds : tie.Need-loop-holds Inv-loop μ-loop
-loop-holds c = (omega arith, omega arith, refl, refl)
+loop-holds c = fields-start (c .before .before .before .pre)
 
 sub-put-field : tie.Need-sub-put-field Inv-loop μ-loop
 sub-put-field c = search needs
@@ -48,18 +38,10 @@ shared-slice-read-put-field-2 : tie.Need-shared-slice-read-put-field-2 Inv-loop 
 shared-slice-read-put-field-2 c = search needs
 
 put-field-requires : tie.Need-put-field-requires Inv-loop μ-loop
-put-field-requires c κs =
-    let a = c .before .before .before .before .before .before .before .before .args in
-    let l = c .before .before .before .before .loop in
-    let e = all-step (a .codes .now) (l .i) (omega arith) (a .values .now) (omega arith) in
-    rw length-tail (omega (arith, simp length-append at (ap length e)))
+put-field-requires c κs = (fields-turn (c .before .before .before .before .loop .inv) (c .before .before .before .loop-test .taken)) .fits
 
 add-at : tie.Need-add-at Inv-loop μ-loop
-add-at c =
-    let a = c .before .before .before .before .before .before .before .before .before .before .before .args in
-    let l = c .before .before .before .before .before .before .before .loop in
-    let e = all-step (a .codes .now) (l .i) (omega arith) (a .values .now) (omega arith) in
-    omega (arith, simp length-append at (ap length e))
+add-at c = omega (arith, (fields-turn (c .before .before .before .before .before .before .before .loop .inv) (c .before .before .before .before .before .before .loop-test .taken)) .within (c .before .before .put-field .ensures .0))
 
 add-i : tie.Need-add-i Inv-loop μ-loop
 add-i c = search needs
@@ -68,27 +50,13 @@ loop-less : tie.Need-loop-less Inv-loop μ-loop
 loop-less c = search needs
 
 loop-again : tie.Need-loop-again Inv-loop μ-loop
-loop-again c =
-    let a = c .before .before .before .before .before .before .before .before .before .before .before .args in
-    let l = c .before .before .before .before .before .before .before .loop in
-    let put = c .before .before .put-field in
-    let e = all-step (a .codes .now) (l .i) (omega arith) (a .values .now) (omega arith) in
-    let sum = simp length-append at (ap length e) in (
-      omega arith,
-      omega arith,
-      rw (put .ensures .0) (tail-step (l .at) (written (codingOf (getD (a .codes .now) (l .i) 0)) (getD (a .values .now) (l .i) 0)) _ (l .s) _ _ (rw e at (l .inv .2)) (omega arith) (put .ensures .1)),
-      c .before .s .given .1 ∙ l .inv .3,
-    )
+loop-again c = fields-step (c .before .before .before .before .before .before .before .loop .inv) (c .before .before .before .before .before .before .loop-test .taken) (c .before .before .put-field .ensures) (c .before .s .given .1)
 
 same-length : tie.Need-same-length Inv-loop μ-loop
-same-length c = c .before .loop .inv .3
+same-length c = c .before .loop .inv .writing .same
 
 returns : tie.Need-returns Inv-loop μ-loop
-returns c =
-    let codes = c .before .before .before .before .before .args .codes .now in
-    let l = c .before .loop in
-    let e : drop (l .i) codes ≡ [] = drop-of-length-le codes {i = l .i} (omega arith) in
-    (omega (arith, rw e at (l .inv .1)), sym (placed-nil (l .at) (l .s)) ∙ (rw e at (l .inv .2)))
+returns c = fields-done (c .before .loop .inv) (c .loop-test .left)
 
 pub put-all-spec : {M : Type 1} → statement M
 put-all-spec =
