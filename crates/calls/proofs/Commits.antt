@@ -76,11 +76,29 @@ one-commit r column (Revoke user n) k h t = absurd t
 one-commit r column (Close s) k h t = close-commit r _ s refl
 one-commit r column (Same m n) k h t = absurd t
 
--- what was read, decided and put back, by the contracts of the parts
+-- what was decided over the elements at the places of a request, and put back there
+pub committed : (r : Register) (p : Places) (column : List ℕ) (q : Request) (d : Decision) → T (wellFormed r) → Column column (r .roles) → T (isOne q)
+    → p ≡ placesIn r (namesOf q) → ruledOf d ≡ decideOf (look r p) column q → lifted r p (ruledOf d) ≡ settled r (callOf q)
+committed r p column q d k h t e ed =
+    ap (lifted r p) ed
+    ∙ ap (λ (p : Places). lifted r p (decideOf (look r p) column q)) e
+    ∙ one-commit r column q k h t
+
+-- the same by the contracts of the parts
 module _ (r : Register) (m : Names) (at from up : ℕ) where
   -- the places as code computes them
   abbrev pub placed : Places
   placed = record { user = m .user % 64; role = from % 32; parent = up % 256; capability = at % 256; session = m .session % 64 }
+
+  pub found : (q : Request) → m ≡ namesOf q
+      → at ≡ capabilityPlace (m .follow) (m .capability) ((sessionAt (r .sessions) (m .session % 64)) .on) (r .count)
+      → from ≡ rolePlace (m .follow) (m .role) ((sessionAt (r .sessions) (m .session % 64)) .on) ((capabilityAt (r .capabilities) (at % 256)) .origin)
+      → up ≡ parentPlace (m .follow) (m .parent) ((capabilityAt (r .capabilities) (at % 256)) .origin)
+      → placed ≡ placesIn r (namesOf q)
+  found q em ea ef eu = same ∙ ap (placesIn r) em
+    where
+      same : placed ≡ placesIn r m
+      same = rw (ef, eu, ea) refl
 
   pub commit : (column : List ℕ) (q : Request) (d : Decision) → T (wellFormed r) → Column column (r .roles) → T (isOne q)
       → m ≡ namesOf q
@@ -89,10 +107,4 @@ module _ (r : Register) (m : Names) (at from up : ℕ) where
       → up ≡ parentPlace (m .follow) (m .parent) ((capabilityAt (r .capabilities) (at % 256)) .origin)
       → ruledOf d ≡ decideOf (look r placed) column q
       → lifted r placed (ruledOf d) ≡ settled r (callOf q)
-  commit column q d k h t em ea ef eu ed =
-      ap (lifted r placed) ed
-      ∙ ap (λ (p : Places). lifted r p (decideOf (look r p) column q)) (same ∙ ap (placesIn r) em)
-      ∙ one-commit r column q k h t
-    where
-      same : placed ≡ placesIn r m
-      same = rw (ef, eu, ea) refl
+  commit column q d k h t em ea ef eu ed = committed r placed column q d k h t (found q em ea ef eu) ed

@@ -1,2 +1,3 @@
 -- The dispatch over requests.
 pub mod Decide
+pub mod View

@@ -4,9 +4,11 @@ ghost use lib.Dec.{T};
 ghost use Rattle.model.specs.Rules.{wellFormed};
 ghost use Rattle.model.specs.Calls.{settled};
 ghost use Rattle.model.specs.Requests.{effectOf, callOf};
-ghost use Rattle.slots.specs.Slots.{ruledOf};
+ghost use Rattle.slots.specs.Slots.{ruledOf, look, put};
+ghost use Rattle.places.specs.Requests.{namesOf, placesIn};
 ghost use Rattle.slots.proofs.TermLaws.{Column};
 ghost use Rattle.calls.specs.Decide.{decideOf, isOne};
+ghost use Rattle.calls.specs.View.{placesOf, Within};
 use administration::decide_appoint;
 use administration::decide_clock;
 use administration::decide_dismiss;
@@ -83,12 +85,23 @@ pub fn decide(v: Slots, permissions: &[u32; 32], q: Request) -> Decision
     }
 }
 
-// The call on a register that is known to be well-formed, by value.
-pub fn apply_one(r: Register, permissions: &[u32; 32], q: Request) -> Reply
-    requires { ⌜ T (wellFormed r) ⌝ }
-    requires { ⌜ Column (now permissions) (r .roles) ⌝ }
-    requires { ⌜ T (isOne q) ⌝ }
-    ensures { λ z. ⌜ effectOf z ≡ settled r (callOf q) ⌝ }
+// Where the elements that a request names stand.
+pub struct Indices {
+    pub user: usize,
+    pub role: usize,
+    pub parent: usize,
+    pub capability: usize,
+    pub session: usize,
+}
+
+pub struct Seen {
+    pub at: Indices,
+    pub slots: Slots,
+}
+
+// The elements that a request names, and where they stand.
+pub fn view(r: Register, q: Request) -> Seen
+    ensures { λ v. ⌜ (placesOf (v .at) ≡ placesIn r (namesOf q)) × (v .slots ≡ look r (placesOf (v .at))) × Within (v .at) ⌝ }
 {
     let m = names_of(q);
     let follow = m.follow;
@@ -103,18 +116,37 @@ pub fn apply_one(r: Register, permissions: &[u32; 32], q: Request) -> Reply
     let pn = (parent_place(follow, m.parent, origin) % 256) as usize;
     let role = r.roles[rn];
     let parent = r.capabilities[pn];
-    let v = Slots {
-        clock: r.clock,
-        enrolled: r.enrolled,
-        count: r.count,
-        domain: r.domains[un],
-        role: role,
-        parent: parent,
-        capability: capability,
-        session: session,
-    };
-    let d = decide(v, permissions, q);
-    let w = d.slots;
+    Seen {
+        at: Indices {
+            user: un,
+            role: rn,
+            parent: pn,
+            capability: cn,
+            session: sn,
+        },
+        slots: Slots {
+            clock: r.clock,
+            enrolled: r.enrolled,
+            count: r.count,
+            domain: r.domains[un],
+            role: role,
+            parent: parent,
+            capability: capability,
+            session: session,
+        },
+    }
+}
+
+// The register with the elements put back. Where the parent stands at the capability's place, the capability stays.
+pub fn put_back(r: Register, at: Indices, w: Slots) -> Register
+    requires { ⌜ Within at ⌝ }
+    ensures { λ z. ⌜ z ≡ put r (placesOf at) w ⌝ }
+{
+    let un = at.user;
+    let rn = at.role;
+    let pn = at.parent;
+    let cn = at.capability;
+    let sn = at.session;
     let mut next = r;
     next.clock = w.clock;
     next.enrolled = w.enrolled;
@@ -128,6 +160,22 @@ pub fn apply_one(r: Register, permissions: &[u32; 32], q: Request) -> Reply
     next.capabilities[cn] = x;
     let x = w.session;
     next.sessions[sn] = x;
+    next
+}
+
+// The call on a register that is known to be well-formed, by value: view, decide, commit.
+pub fn apply_one(r: Register, permissions: &[u32; 32], q: Request) -> Reply
+    requires { ⌜ T (wellFormed r) ⌝ }
+    requires { ⌜ Column (now permissions) (r .roles) ⌝ }
+    requires { ⌜ T (isOne q) ⌝ }
+    ensures { λ z. ⌜ effectOf z ≡ settled r (callOf q) ⌝ }
+{
+    let seen = view(r, q);
+    let v = seen.slots;
+    let d = decide(v, permissions, q);
+    let w = d.slots;
+    let at = seen.at;
+    let next = put_back(r, at, w);
     let answer = d.answer;
     Reply {
         answer: answer,

@@ -23,14 +23,13 @@ use Rattle.model.specs.declared.Request.{Request}
 use Rattle.model.specs.declared.Refusal.{Refusal}
 use Rattle.model.specs.declared.Answer.{Answer}
 use Rattle.model.specs.declared.Answer.the-variants.{Value, Refused}
-use Rattle.model.specs.declared.Reply.{Reply}
 use Rattle.model.specs.declared.Parsed.{Parsed}
 use Rattle.model.specs.declared.Parsed.the-variants.{Line, NoRequest}
 use Rattle.model.specs.State.{fresh}
 use Rattle.model.specs.Rules.{wellFormed}
 use Rattle.model.specs.Rulings.{value, refused, Effect, settle}
-use Rattle.model.specs.Calls.{settled, step}
-use Rattle.model.specs.Requests.{refusalNumber, outcomeOf, effectOf, callOf, parsedCall}
+use Rattle.model.specs.Calls.{Call, settled, step}
+use Rattle.model.specs.Requests.{refusalNumber, outcomeOf, callOf, parsedCall}
 use Rattle.model.specs.Lines.{parse}
 use Rattle.model.specs.Image.{encode, decode, loads, saveEffect}
 use Rattle.model.specs.Entry.{Return, declined, done, soleLine, fitted, answered, called, entry, returned, bufferAfter}
@@ -38,6 +37,7 @@ use Rattle.model.proofs.Rules.{kept→, kept←}
 use Rattle.model.proofs.Running.{step-keeps, loads-kept}
 use Rattle.model.proofs.Settling.{step-settled}
 use Rattle.text.specs.Parts.{before, after}
+use Rattle.fellunqa.specs.Perform.{performed}
 use Rattle.text.proofs.PartLaws.{take-before, split-before, after-more, after-end}
 
 -- ---- the line
@@ -177,22 +177,26 @@ module _ (image line : List ℕ) (room : ℕ) (l : Loaded) (found : (l .ok ≡ l
       pub no-line : q ≡ NoRequest → declined 1 ≡ entry image line room
       no-line g = sym (by-line ∙ ap (called room r) (sym e ∙ ap parsedCall g))
 
-      module _ (p : Request) (z : Reply) (g : q ≡ Line p) (f : effectOf z ≡ settled r (callOf p)) where
-        stepped : effectOf z ≡ step r (callOf p)
-        stepped = f ∙ sym (step-settled r (callOf p) loaded-formed)
+      pub by-call : (p : Request) → q ≡ Line p → performed room r (callOf p) ≡ entry image line room
+      unfolding performed
+      by-call p g =
+          ap (λ (y : Effect). answered room (y .answer) (y .after)) (sym (step-settled r (callOf p) loaded-formed))
+          ∙ sym (by-line ∙ ap (called room r) (sym e ∙ ap parsedCall g))
 
-        by-call : entry image line room ≡ answered room (outcomeOf (z .answer)) (z .register)
-        by-call =
-            by-line
-            ∙ ap (called room r) (sym e ∙ ap parsedCall g)
-            ∙ ap (λ (y : Effect). answered room (y .answer) (y .after)) (sym stepped)
+-- ---- what a call comes to: its answer is a, and the register after it z
 
-        pub after-formed : T (wellFormed (z .register))
-        after-formed =
-            subst (λ (y : Effect). T (wellFormed (y .after))) (sym stepped) (kept← _ (step-keeps r (callOf p) (kept→ r loaded-formed)))
+module _ (room : ℕ) (r : Register) (c : Call) (a : Answer) (z : Register) (formed : T (wellFormed r)) (f : record { answer = outcomeOf a; after = z } ≡ settled r c) where
+  pub after-formed : T (wellFormed z)
+  after-formed =
+      let e : record { answer = outcomeOf a; after = z } ≡ step r c = f ∙ sym (step-settled r c formed) in
+      subst (λ (y : Effect). T (wellFormed (y .after))) (sym e) (kept← _ (step-keeps r c (kept→ r formed)))
 
-        pub by-value : (v : ℕ) → z .answer ≡ Value v → fitted room v (encode (z .register)) ≡ entry image line room
-        by-value v a = sym (by-call ∙ ap (λ (x : Answer). answered room (outcomeOf x) (z .register)) a)
+  by-effect : answered room (outcomeOf a) z ≡ performed room r c
+  unfolding performed
+  by-effect = ap (λ (y : Effect). answered room (y .answer) (y .after)) f
 
-        pub by-refusal : (why : Refusal) → z .answer ≡ Refused why → declined (refusalNumber why) ≡ entry image line room
-        by-refusal why a = sym (by-call ∙ ap (λ (x : Answer). answered room (outcomeOf x) (z .register)) a)
+  pub by-value : (v : ℕ) → a ≡ Value v → fitted room v (encode z) ≡ performed room r c
+  by-value v e = ap (λ (x : Answer). answered room (outcomeOf x) z) (sym e) ∙ by-effect
+
+  pub by-refusal : (why : Refusal) → a ≡ Refused why → declined (refusalNumber why) ≡ performed room r c
+  by-refusal why e = ap (λ (x : Answer). answered room (outcomeOf x) z) (sym e) ∙ by-effect

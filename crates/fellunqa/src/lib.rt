@@ -7,15 +7,24 @@ ghost use lib.ListN.{length};
 ghost use Rattle.masks.specs.Bytes.{bytesOf, front, split};
 ghost use Rattle.model.specs.Rules.{wellFormed};
 ghost use Rattle.model.specs.Image.{encode};
-ghost use Rattle.model.specs.Requests.{refusalNumber, parsedCall};
+ghost use Rattle.model.specs.Requests.{refusalNumber, callOf, parsedCall};
 ghost use Rattle.model.specs.Entry.{fitted, soleLine, entry, returned, bufferAfter};
+ghost use Rattle.calls.specs.Decide.{isOne};
+ghost use Rattle.fellunqa.specs.Perform.{performed};
 use calls::apply::apply_trusted;
+use calls::one::decide;
+use calls::one::put_back;
+use calls::one::view;
 use image::load;
 use image::save_trusted;
 use model::Answer;
 use model::Parsed;
 use model::Refusal;
 use model::Register;
+use model::Request;
+use places::Task;
+use places::task_of;
+use revocation::columns::permissions_of;
 use text::answers::refusal_number;
 use text::parts::count_before;
 use text::requests::parse;
@@ -66,6 +75,44 @@ fn deliver(buffer: &mut [u8], r: Register, v: u32) -> i64
     v as i64
 }
 
+// The call of a request that changes only elements that it names. They are read, decided and put back here, since a reply by value
+// would be copied twice more.
+fn answer_one(area: &mut [u8], r: Register, q: Request) -> i64
+    requires { ⌜ T (wellFormed r) × T (isOne q) ⌝ }
+    ensures { λ z. ⌜ (z ≡ returned (performed (length (now (area .entry))) r (callOf q))) × (now (area .exit) ≡ bufferAfter (performed (length (now (area .entry))) r (callOf q)) (now (area .entry))) ⌝ }
+{
+    let permissions = permissions_of(r);
+    let seen = view(r, q);
+    let v = seen.slots;
+    let d = decide(v, &permissions, q);
+    let answer = d.answer;
+    match answer {
+        Answer::Value(n) => {
+            let w = d.slots;
+            let at = seen.at;
+            let next = put_back(r, at, w);
+            deliver(area, next, n)
+        }
+        Answer::Refused(why) => refused(why),
+    }
+}
+
+// The call of any request.
+fn answer_any(area: &mut [u8], r: Register, q: Request) -> i64
+    requires { ⌜ T (wellFormed r) ⌝ }
+    ensures { λ z. ⌜ (z ≡ returned (performed (length (now (area .entry))) r (callOf q))) × (now (area .exit) ≡ bufferAfter (performed (length (now (area .entry))) r (callOf q)) (now (area .entry))) ⌝ }
+{
+    let reply = apply_trusted(r, q);
+    let answer = reply.answer;
+    match answer {
+        Answer::Value(n) => {
+            let next = reply.register;
+            deliver(area, next, n)
+        }
+        Answer::Refused(why) => refused(why),
+    }
+}
+
 // One call from C, on the register whose image is given. It returns the value, with the new image's length in two bytes and
 // the new image at the front of the area; or a refusal as a negative number, with the area as it was.
 #[no_mangle]
@@ -82,13 +129,10 @@ pub extern "C" fn fellunqa_apply(image: &[u8], line: &[u8], area: &mut [u8]) -> 
         return -1;
     };
     let register = loaded.register;
-    let reply = apply_trusted(register, request);
-    let answer = reply.answer;
-    match answer {
-        Answer::Value(v) => {
-            let after = reply.register;
-            deliver(area, after, v)
-        }
-        Answer::Refused(why) => refused(why),
+    let task = task_of(request);
+    if let Task::One(q) = task {
+        answer_one(area, register, q)
+    } else {
+        answer_any(area, register, request)
     }
 }

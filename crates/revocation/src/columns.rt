@@ -11,10 +11,11 @@ use model::Register;
 pub fn permissions_of(r: Register) -> [u32; 32]
     ensures { λ q. ⌜ ((k : ℕ) → k < 32 → getD q k 0 ≡ roleAuthority (r .roles) k) ⌝ }
 {
+    let roles = r.roles;
     let mut column = [0u32; 32];
     let mut i: usize = 0;
     while i < 32 {
-        let x = r.roles[i];
+        let x = roles[i];
         column[i] = x.permissions;
         i = i + 1;
     }

@@ -1,12 +1,17 @@
 -- `fellunqa::fellunqa_apply` meets its contract.
-use mathlib.Core.Path.{_∙_}
+use mathlib.Core.Path.{_≡_, ap, _∙_}
 use lib.ListN.{length}
-use borrow.Author.Needs.{sfits-of}
+use borrow.Author.Needs.{needs, sfits-of}
 use borrow.Author.Tests.{not-true, not-false}
 use mir.Syntax.{w64}
 use mir.ValLaws.{toZ-ofZ}
-use Rattle.fellunqa.proofs.Laws.{leaves-by, no-image, no-line, loaded-formed, after-formed, by-value, by-refusal}
-use borrow.Author.Needs.{needs}
+use lib.Dec.{T}
+use Rattle.model.specs.Rules.{wellFormed}
+use Rattle.model.specs.Entry.{entry}
+use Rattle.model.specs.Requests.{callOf}
+use Rattle.calls.proofs.Tasks.{called, fits}
+use Rattle.fellunqa.specs.Perform.{performed}
+use Rattle.fellunqa.proofs.Laws.{leaves-by, no-image, no-line, loaded-formed, by-call}
 use Rattle.fellunqa.proofs.fellunqa_apply.Statement.{statement}
 use Rattle.fellunqa.proofs.fellunqa_apply.Tie as tie
 
@@ -22,35 +27,42 @@ returns-2 c =
     let load = c .before .before .before .before .load in
     leaves-by (a .area .now) _ _ (no-line (a .image .now) (a .line .now) (length (a .area .now)) (load .result) (load .ensures) (not-false (load .result .ok) (c .before .before .before .if1 .left)) _ (c .before .before .sole-line .ensures) (c .enum-told .given .1))
 
-apply-trusted-requires : tie.Need-apply-trusted-requires
-apply-trusted-requires c κs =
-    let a = c .before .before .before .before .before .before .before .before .before .before .args in
-    let load = c .before .before .before .before .before .before .load in
-    loaded-formed (a .image .now) (a .line .now) (length (a .area .now)) (load .result) (load .ensures) (not-false (load .result .ok) (c .before .before .before .before .before .if1 .left))
+-- the request of the line, on the register of the image, which keeps the rules
+formed : (c : tie.After-task-of) → T (wellFormed (c .before .before .before .before .before .before .before .load .result .register))
+formed c =
+    let a = c .before .before .before .before .before .before .before .before .before .before .before .args in
+    let load = c .before .before .before .before .before .before .before .load in
+    loaded-formed (a .image .now) (a .line .now) (length (a .area .now)) (load .result) (load .ensures) (not-false (load .result .ok) (c .before .before .before .before .before .before .if1 .left))
 
-deliver-requires : tie.Need-deliver-requires
-deliver-requires c κs =
-    let a = c .before .before .before .before .before .before .before .before .before .before .before .before .before .before .before .before .args in
-    let load = c .before .before .before .before .before .before .before .before .before .before .before .before .load in
-    after-formed (a .image .now) (a .line .now) (length (a .area .now)) (load .result) (load .ensures) (not-false (load .result .ok) (c .before .before .before .before .before .before .before .before .before .before .before .if1 .left)) _ (c .before .before .before .before .before .before .before .before .before .before .sole-line .ensures) _ (c .before .before .before .before .before .apply-trusted .result) (c .before .before .before .before .before .before .before .before .parsed .given .1) (c .before .before .before .before .before .apply-trusted .ensures)
+comes : (c : tie.After-task-of) →
+    let a = c .before .before .before .before .before .before .before .before .before .before .before .args in
+    performed (length (a .area .now)) (c .before .before .before .before .before .before .before .load .result .register) (callOf (c .before .before .before .parsed .given .0 .0)) ≡ entry (a .image .now) (a .line .now) (length (a .area .now))
+comes c =
+    let a = c .before .before .before .before .before .before .before .before .before .before .before .args in
+    let load = c .before .before .before .before .before .before .before .load in
+    by-call (a .image .now) (a .line .now) (length (a .area .now)) (load .result) (load .ensures) (not-false (load .result .ok) (c .before .before .before .before .before .before .if1 .left)) _ (c .before .before .before .before .before .sole-line .ensures) _ (c .before .before .before .parsed .given .1)
+
+answer-one-requires : tie.Need-answer-one-requires
+answer-one-requires c κs =
+    (formed (c .before .before .before .before), fits (c .before .before .before .before .before .before .before .parsed .given .0 .0) _ _ (c .before .before .before .before .task-of .ensures) (c .before .before .task .given .1))
+
+answer-any-requires : tie.Need-answer-any-requires
+answer-any-requires c κs = formed (c .before .before)
 
 returns-3 : tie.Need-returns-3
 returns-3 c =
-    let a = c .before .before .before .before .before .before .before .before .before .before .before .before .before .before .before .before .before .before .before .args in
-    let load = c .before .before .before .before .before .before .before .before .before .before .before .before .before .before .before .load in
-    let z = c .before .before .deliver .result in
-    let e = by-value (a .image .now) (a .line .now) (length (a .area .now)) (load .result) (load .ensures) (not-false (load .result .ok) (c .before .before .before .before .before .before .before .before .before .before .before .before .before .before .if1 .left)) _ (c .before .before .before .before .before .before .before .before .before .before .before .before .before .sole-line .ensures) _ _ (c .before .before .before .before .before .before .before .before .before .before .before .parsed .given .1) (c .before .before .before .before .before .before .before .before .apply-trusted .ensures) _ (c .before .before .before .before .before .before .answer .given .1) in
-    let same = leaves-by (a .area .now) _ _ e in
-    (toZ-ofZ w64 z (sfits-of {w = w64} {z = z} (c .before .before .deliver .ok)) ∙ c .before .before .deliver .ensures .0 ∙ same .0, c .before .before .deliver .ensures .1 ∙ same .1)
+    let a = c .before .before .before .before .before .before .before .before .before .before .before .before .before .before .before .before .before .before .args in
+    let z = c .before .before .answer-one .result in
+    let q = called (c .before .before .before .before .before .before .before .before .before .before .parsed .given .0 .0) _ _ (c .before .before .before .before .before .before .before .task-of .ensures) (c .before .before .before .before .before .task .given .1) in
+    let same = leaves-by (a .area .now) _ _ (ap (performed (length (a .area .now)) (c .before .before .before .before .before .before .before .before .before .before .before .before .before .before .load .result .register)) q ∙ comes (c .before .before .before .before .before .before .before)) in
+    (toZ-ofZ w64 z (sfits-of {w = w64} {z = z} (c .before .before .answer-one .ok)) ∙ c .before .before .answer-one .ensures .0 ∙ same .0, c .before .before .answer-one .ensures .1 ∙ same .1)
 
 returns-4 : tie.Need-returns-4
 returns-4 c =
-    let a = c .before .before .before .before .before .before .before .before .before .before .before .before .before .before .before .args in
-    let load = c .before .before .before .before .before .before .before .before .before .before .before .load in
-    let z = c .refused .result in
-    let e = by-refusal (a .image .now) (a .line .now) (length (a .area .now)) (load .result) (load .ensures) (not-false (load .result .ok) (c .before .before .before .before .before .before .before .before .before .before .if1 .left)) _ (c .before .before .before .before .before .before .before .before .before .sole-line .ensures) _ _ (c .before .before .before .before .before .before .before .parsed .given .1) (c .before .before .before .before .apply-trusted .ensures) _ (c .before .before .answer2 .given .1) in
-    let same = leaves-by (a .area .now) _ _ e in
-    (toZ-ofZ w64 z (sfits-of {w = w64} {z = z} (c .refused .ok)) ∙ c .refused .ensures ∙ same .0, same .1)
+    let a = c .before .before .before .before .before .before .before .before .before .before .before .before .before .before .before .before .args in
+    let z = c .before .before .answer-any .result in
+    let same = leaves-by (a .area .now) _ _ (comes (c .before .before .before .before .before)) in
+    (toZ-ofZ w64 z (sfits-of {w = w64} {z = z} (c .before .before .answer-any .ok)) ∙ c .before .before .answer-any .ensures .0 ∙ same .0, c .before .before .answer-any .ensures .1 ∙ same .1)
 
 pub fellunqa-apply-spec : {M : Type 1} → statement M
 fellunqa-apply-spec =
@@ -58,15 +70,12 @@ fellunqa-apply-spec =
     (tie.spec
     (λ c κs. search needs)
     returns
-    (λ c κs. search needs)
-    (λ c. search needs)
-    (λ c. search needs)
+    (λ c κs. search needs) (λ c. search needs) (λ c. search needs)
     returns-2
-    apply-trusted-requires
-    (λ c. search needs)
-    deliver-requires
-    (λ c. search needs)
-    (λ c κs. search needs)
+    (λ c κs. search needs) (λ c. search needs)
+    answer-one-requires
+    answer-any-requires
     (λ c. search needs)
     returns-3
+    (λ c. search needs)
     returns-4)

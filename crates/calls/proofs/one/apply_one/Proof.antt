@@ -1,47 +1,27 @@
-use Rattle.slots.specs.Slots.{put}
-use Rattle.calls.proofs.Commits.{commit}
+-- `calls::one::apply_one` meets its contract.
+use mathlib.Core.Path.{ap, _∙_}
+use Rattle.model.specs.declared.Register.{Register}
+use Rattle.model.specs.Requests.{effectOf}
+use Rattle.slots.specs.declared.Slots.{Slots}
+use Rattle.calls.specs.Decide.{decideOf}
+use Rattle.calls.specs.View.{placesOf}
+use Rattle.calls.proofs.Commits.{committed}
 use borrow.Author.Needs.{needs}
 use Rattle.calls.proofs.one.apply_one.Statement.{statement}
 use Rattle.calls.proofs.one.apply_one.Tie as tie
 
+put-back-requires : tie.Need-put-back-requires
+put-back-requires c κs = c .before .before .before .before .view .ensures .2
+
 returns : tie.Need-returns
-unfolding put
 returns c =
-    let a = c .before .before .before .before .before .before .before .before .before .before .before .before .before .before .before .before .before .args in
-    commit (a .t1) (c .before .before .before .before .before .before .before .before .before .before .before .before .before .before .before .before .names-of .result) (c .before .before .before .before .before .before .before .before .before .before .before .before .capability-place .result) (c .before .before .before .before .before .before .before .before .before .before .role-place .result) (c .before .before .before .before .before .before .before .before .before .parent-place .result) _ (a .q) (c .before .before .before .before .before .decide .result)
-    (c .before .before .before .before .before .before .before .before .before .before .before .before .before .before .before .before .before .pre .0) (c .before .before .before .before .before .before .before .before .before .before .before .before .before .before .before .before .before .pre .1 .0) (c .before .before .before .before .before .before .before .before .before .before .before .before .before .before .before .before .before .pre .1 .1)
-    (c .before .before .before .before .before .before .before .before .before .before .before .before .before .before .before .before .names-of .ensures) (c .before .before .before .before .before .before .before .before .before .before .before .before .capability-place .ensures) (c .before .before .before .before .before .before .before .before .before .before .role-place .ensures) (c .before .before .before .before .before .before .before .before .before .parent-place .ensures) (c .before .before .before .before .before .decide .ensures)
+    let decide = c .before .before .before .decide in
+    let view = c .before .before .before .before .before .view in
+    let start = c .before .before .before .before .before .before in
+    let a = start .args in
+    ap (λ (n : Register). effectOf record { answer = decide .result .answer; register = n }) (c .put-back .ensures)
+    ∙ committed (a .r) (placesOf (view .result .at)) (a .permissions .now) (a .q) (decide .result) (start .pre .0) (start .pre .1 .0) (start .pre .1 .1) (view .ensures .0)
+    (decide .ensures ∙ ap (λ (v : Slots). decideOf v (a .permissions .now) (a .q)) (view .ensures .1))
 
 pub apply-one-spec : {M : Type 1} → statement M
-apply-one-spec =
-    tie.close
-    (tie.spec
-    (λ c κs. search needs)
-    (λ c. search needs)
-    (λ c. search needs)
-    (λ c. search needs)
-    (λ c. search needs)
-    (λ c κs. search needs)
-    (λ c. search needs)
-    (λ c. search needs)
-    (λ c. search needs)
-    (λ c κs. search needs)
-    (λ c. search needs)
-    (λ c κs. search needs)
-    (λ c. search needs)
-    (λ c. search needs)
-    (λ c. search needs)
-    (λ c. search needs)
-    (λ c. search needs)
-    (λ c. search needs)
-    (λ c κs. search needs)
-    (λ c. search needs)
-    (λ c. search needs)
-    (λ c. search needs)
-    (λ c. search needs)
-    (λ c. search needs)
-    (λ c. search needs)
-    (λ c. search needs)
-    (λ c. search needs)
-    (λ c. search needs)
-    returns)
+apply-one-spec = tie.close (tie.spec (λ c κs. search needs) (λ c κs. search needs) put-back-requires returns)

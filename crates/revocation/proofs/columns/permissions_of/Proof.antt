@@ -10,10 +10,10 @@ use Rattle.revocation.proofs.columns.permissions_of.Statement.{statemen
 use Rattle.revocation.proofs.columns.permissions_of.Tie as tie
 
 abbrev Inv-loop : tie.InvT-loop
-Inv-loop r column₀ i₀ column i = (i ≤ 32) × ((length column ≡ 32) × ((k : ℕ) → k < i → getD column k 0 ≡ roleAuthority (r .roles) k))
+Inv-loop roles column₀ i₀ column i = (i ≤ 32) × ((length column ≡ 32) × ((k : ℕ) → k < i → getD column k 0 ≡ roleAuthority roles k))
 
 abbrev μ-loop : tie.MeasureT-loop
-μ-loop r column₀ i₀ column i = 32 - i
+μ-loop roles column₀ i₀ column i = 32 - i
 
 loop-holds : tie.Need-loop-holds Inv-loop μ-loop
 loop-holds c = (search needs, (search needs, λ k l. absurd (omega arith)))

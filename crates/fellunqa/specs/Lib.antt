@@ -1,0 +1,2 @@
+-- What a call comes to at the entry point.
+pub mod Perform
