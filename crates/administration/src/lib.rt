@@ -1,7 +1,10 @@
 // Administration: enrol, found, grant, appoint, dismiss and clock, decided over the elements that they name.
 ghost use mathlib.Core.Path.{_≡_};
-ghost use Rattle.slots.specs.Checks.{checked, firstNumber};
-ghost use Rattle.slots.specs.Slots.{ruledOf};
+ghost use mathlib.Core.List.{List};
+ghost use lib.Dec.{T};
+ghost use Rattle.model.specs.Rulings.{Guard};
+ghost use Rattle.slots.specs.Checks.{checked, firstNumber, numbered};
+ghost use Rattle.slots.specs.Slots.{ruledOf, settleSlots, withRoleSlot};
 ghost use Rattle.administration.specs.Administration.{enrolGuards, enrolDecision, foundGuards, foundDecision, grantGuards, grantDecision, appointGuards, appointDecision, dismissGuards, dismissDecision, clockGuards, clockDecision};
 use masks::excluding64;
 use masks::including32;
@@ -14,6 +17,26 @@ use slots::Decision;
 use slots::Slots;
 use slots::checks::Check;
 use slots::checks::first;
+
+// The role y in its slot where the check passes, with the value 0: whatever guards the check asked.
+fn put_role(v: Slots, k: Check, y: Role) -> Decision
+    ensures { λ q. ⌜ ((gs : List Guard) → T (numbered gs) → checked k ≡ firstNumber gs → ruledOf q ≡ settleSlots v gs 0 (withRoleSlot v y)) ⌝ }
+{
+    match k {
+        Check::Refuse(why) => Decision {
+            answer: Answer::Refused(why),
+            slots: v,
+        },
+        Check::Pass => {
+            let mut w = v;
+            w.role = y;
+            Decision {
+                answer: Answer::Value(0),
+                slots: w,
+            }
+        }
+    }
+}
 
 pub fn enrol_check(enrolled: u64, user: u32, domain: u32) -> Check
     ensures { λ q. ⌜ checked q ≡ firstNumber (enrolGuards enrolled user domain) ⌝ }
@@ -74,29 +97,16 @@ pub fn decide_found(
 {
     let x = v.role;
     let k = found_check(x.founded, role, domain, hours, places, devices);
-    match k {
-        Check::Refuse(why) => Decision {
-            answer: Answer::Refused(why),
-            slots: v,
-        },
-        Check::Pass => {
-            let y = Role {
-                founded: true,
-                domain: (domain % 8) as u8,
-                permissions: 0,
-                hours: hours,
-                places: (places % 65536) as u16,
-                devices: (devices % 65536) as u16,
-                appointed: 0,
-            };
-            let mut w = v;
-            w.role = y;
-            Decision {
-                answer: Answer::Value(0),
-                slots: w,
-            }
-        }
-    }
+    let y = Role {
+        founded: true,
+        domain: (domain % 8) as u8,
+        permissions: 0,
+        hours: hours,
+        places: (places % 65536) as u16,
+        devices: (devices % 65536) as u16,
+        appointed: 0,
+    };
+    put_role(v, k, y)
 }
 
 pub fn grant_check(x: Role, role: u32, permission: u32) -> Check
@@ -113,22 +123,9 @@ pub fn decide_grant(v: Slots, role: u32, permission: u32) -> Decision
 {
     let x = v.role;
     let k = grant_check(x, role, permission);
-    match k {
-        Check::Refuse(why) => Decision {
-            answer: Answer::Refused(why),
-            slots: v,
-        },
-        Check::Pass => {
-            let mut y = x;
-            y.permissions = including32(x.permissions, permission % 32);
-            let mut w = v;
-            w.role = y;
-            Decision {
-                answer: Answer::Value(0),
-                slots: w,
-            }
-        }
-    }
+    let mut y = x;
+    y.permissions = including32(x.permissions, permission % 32);
+    put_role(v, k, y)
 }
 
 pub fn appoint_check(enrolled: u64, domain: u8, x: Role, user: u32, role: u32) -> Check
@@ -147,22 +144,9 @@ pub fn decide_appoint(v: Slots, user: u32, role: u32) -> Decision
 {
     let x = v.role;
     let k = appoint_check(v.enrolled, v.domain, x, user, role);
-    match k {
-        Check::Refuse(why) => Decision {
-            answer: Answer::Refused(why),
-            slots: v,
-        },
-        Check::Pass => {
-            let mut y = x;
-            y.appointed = including64(x.appointed, user % 64);
-            let mut w = v;
-            w.role = y;
-            Decision {
-                answer: Answer::Value(0),
-                slots: w,
-            }
-        }
-    }
+    let mut y = x;
+    y.appointed = including64(x.appointed, user % 64);
+    put_role(v, k, y)
 }
 
 pub fn dismiss_check(enrolled: u64, x: Role, user: u32, role: u32) -> Check
@@ -180,22 +164,9 @@ pub fn decide_dismiss(v: Slots, user: u32, role: u32) -> Decision
 {
     let x = v.role;
     let k = dismiss_check(v.enrolled, x, user, role);
-    match k {
-        Check::Refuse(why) => Decision {
-            answer: Answer::Refused(why),
-            slots: v,
-        },
-        Check::Pass => {
-            let mut y = x;
-            y.appointed = excluding64(x.appointed, user % 64);
-            let mut w = v;
-            w.role = y;
-            Decision {
-                answer: Answer::Value(0),
-                slots: w,
-            }
-        }
-    }
+    let mut y = x;
+    y.appointed = excluding64(x.appointed, user % 64);
+    put_role(v, k, y)
 }
 
 pub fn clock_check(clock: u32, tick: u32) -> Check

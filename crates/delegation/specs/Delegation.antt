@@ -74,16 +74,17 @@ giveGuards enrolled count c given had user n mask =
     ∷ 4 when within mask had
     ∷ []
 
+-- allow and lend, once what the origin may give is known: `d` is the capability with the mask added
+abbrev pub giveDecision : Slots → List ℕ → (given had user n mask : ℕ) → Capability → Ruled
+giveDecision v permissions given had user n mask d =
+    settleSlots v (giveGuards (v .enrolled) (v .count) (v .capability) given had user n mask) (authorityIn permissions d) (withCapabilitySlot v d)
+
 unfoldable pub allowDecision : Slots → List ℕ → (user n mask : ℕ) → Ruled
 allowDecision v permissions user n mask =
     let c : Capability = v .capability in
-    let d : Capability = withPermissions c (bitOr (c .permissions) mask) in
-    settleSlots v (giveGuards (v .enrolled) (v .count) c ((originTerms v permissions (c .origin)) .grants) (c .permissions) user n mask)
-    (authorityIn permissions d) (withCapabilitySlot v d)
+    giveDecision v permissions ((originTerms v permissions (c .origin)) .grants) (c .permissions) user n mask (withPermissions c (bitOr (c .permissions) mask))
 
 unfoldable pub lendDecision : Slots → List ℕ → (user n mask : ℕ) → Ruled
 lendDecision v permissions user n mask =
     let c : Capability = v .capability in
-    let d : Capability = withLent c (bitOr (c .lent) mask) in
-    settleSlots v (giveGuards (v .enrolled) (v .count) c ((originTerms v permissions (c .origin)) .lendable) (c .lent) user n mask)
-    (authorityIn permissions d) (withCapabilitySlot v d)
+    giveDecision v permissions ((originTerms v permissions (c .origin)) .lendable) (c .lent) user n mask (withLent c (bitOr (c .lent) mask))

@@ -1,10 +1,11 @@
 // The tests of hand, allow and lend, and what an origin allows.
 ghost use mathlib.Core.Path.{_≡_};
 ghost use Rattle.masks.specs.Masks.{within};
+ghost use Rattle.model.specs.Setters.{withPermissions, withLent};
 ghost use Rattle.slots.specs.Checks.{checked, firstNumber};
 ghost use Rattle.slots.specs.Slots.{ruledOf};
 ghost use Rattle.slots.specs.Terms.{termsIn};
-ghost use Rattle.delegation.specs.Delegation.{handGuards, giveGuards, originTerms, renewedIn};
+ghost use Rattle.delegation.specs.Delegation.{handGuards, giveGuards, giveDecision, originTerms, renewedIn};
 use masks::member;
 use model::Answer;
 use model::Capability;
@@ -98,4 +99,40 @@ pub fn give_check(
     let k = first(!(c.creator as u32 == user), Refusal::Forbidden, k);
     let k = first(!(giver & (number < count as u32)), Refusal::Missing, k);
     first(!((user < 64) & (number < 256)), Refusal::Range, k)
+}
+
+// What allow or lend adds to: `given` is what the origin may give, `had` what the capability has already; `permissions` and
+// `lent` are what it has after.
+pub struct Extension {
+    pub given: u32,
+    pub had: u32,
+    pub permissions: u32,
+    pub lent: u32,
+}
+
+// Allow and lend, once it is known what they add to.
+pub fn give(
+    v: Slots,
+    permissions: &[u32; 32],
+    user: u32,
+    number: u32,
+    mask: u32,
+    e: Extension,
+) -> Decision
+    ensures { λ q. ⌜ ruledOf q ≡ giveDecision v (now (permissions .entry)) (e .given) (e .had) user number mask (withLent (withPermissions (v .capability) (e .permissions)) (e .lent)) ⌝ }
+{
+    let c = v.capability;
+    let k = give_check(v.enrolled, v.count, c, e.given, e.had, user, number, mask);
+    match k {
+        Check::Refuse(why) => Decision {
+            answer: Answer::Refused(why),
+            slots: v,
+        },
+        Check::Pass => {
+            let mut d = c;
+            d.permissions = e.permissions;
+            d.lent = e.lent;
+            renewed(v, permissions, d)
+        }
+    }
 }

@@ -10,10 +10,10 @@ use creation::counted;
 use creation::create_check;
 use creation::made;
 use creation::standing_of;
-use giving::give_check;
+use giving::Extension;
+use giving::give;
 use giving::hand_check;
 use giving::origin_allows;
-use giving::renewed;
 use masks::including64;
 use model::Answer;
 use model::Context;
@@ -64,27 +64,13 @@ pub fn decide_allow(
     let c = v.capability;
     let o = c.origin;
     let a = origin_allows(v, permissions, o);
-    let k = give_check(
-        v.enrolled,
-        v.count,
-        c,
-        a.grants,
-        c.permissions,
-        user,
-        number,
-        mask,
-    );
-    match k {
-        Check::Refuse(why) => Decision {
-            answer: Answer::Refused(why),
-            slots: v,
-        },
-        Check::Pass => {
-            let mut d = c;
-            d.permissions = c.permissions | mask;
-            renewed(v, permissions, d)
-        }
-    }
+    let e = Extension {
+        given: a.grants,
+        had: c.permissions,
+        permissions: c.permissions | mask,
+        lent: c.lent,
+    };
+    give(v, permissions, user, number, mask, e)
 }
 
 // The same slots, for the roles that the origin may lend.
@@ -94,27 +80,13 @@ pub fn decide_lend(v: Slots, permissions: &[u32; 32], user: u32, number: u32, ma
     let c = v.capability;
     let o = c.origin;
     let a = origin_allows(v, permissions, o);
-    let k = give_check(
-        v.enrolled,
-        v.count,
-        c,
-        a.lendable,
-        c.lent,
-        user,
-        number,
-        mask,
-    );
-    match k {
-        Check::Refuse(why) => Decision {
-            answer: Answer::Refused(why),
-            slots: v,
-        },
-        Check::Pass => {
-            let mut d = c;
-            d.lent = c.lent | mask;
-            renewed(v, permissions, d)
-        }
-    }
+    let e = Extension {
+        given: a.lendable,
+        had: c.lent,
+        permissions: c.permissions,
+        lent: c.lent | mask,
+    };
+    give(v, permissions, user, number, mask, e)
 }
 
 // The slot `role` or `parent` is the origin, the slot `capability` the place of the new capability.

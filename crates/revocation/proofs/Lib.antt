@@ -1,6 +1,7 @@
 -- Laws of the columns, the lineage and the sweeps.
 pub mod ColumnLaws
 pub mod Ascent
+pub mod Recursion
 pub mod SweepLaws
 pub mod SettleLaws
 pub mod RevokeLaws

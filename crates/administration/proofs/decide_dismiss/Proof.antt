@@ -1,18 +1,11 @@
 use borrow.Author.Needs.{needs}
 use Rattle.administration.specs.Administration.{dismissDecision}
-use Rattle.slots.proofs.CheckLaws.{refuse-ruled, pass-ruled}
 use Rattle.administration.proofs.decide_dismiss.Statement.{statement}
 use Rattle.administration.proofs.decide_dismiss.Tie as tie
 
 returns : tie.Need-returns
 unfolding dismissDecision
-returns c = refuse-ruled _ _ _ _ _ (c .before .before .before .dismiss-check .ensures) (c .before .k .given .1)
-
-returns-2 : tie.Need-returns-2
-unfolding dismissDecision
-returns-2 c = rw (c .excluding64 .ensures) (pass-ruled _ _ _ _ _ tt (c .before .before .before .dismiss-check .ensures) (c .before .enum-told .given .1))
+returns c = rw (← c .before .excluding64 .ensures) (c .put-role .ensures _ tt (c .before .before .dismiss-check .ensures))
 
 pub decide-dismiss-spec : {M : Type 1} → statement M
-decide-dismiss-spec =
-    tie.close
-    (tie.spec (λ c κs. search needs) (λ c. search needs) (λ c. search needs) (λ c κs. search needs) returns returns-2)
+decide-dismiss-spec = tie.close (tie.spec (λ c κs. search needs) (λ c κs. search needs) (λ c κs. search needs) returns)

@@ -1,18 +1,11 @@
 use borrow.Author.Needs.{needs}
 use Rattle.administration.specs.Administration.{grantDecision}
-use Rattle.slots.proofs.CheckLaws.{refuse-ruled, pass-ruled}
 use Rattle.administration.proofs.decide_grant.Statement.{statement}
 use Rattle.administration.proofs.decide_grant.Tie as tie
 
 returns : tie.Need-returns
 unfolding grantDecision
-returns c = refuse-ruled _ _ _ _ _ (c .before .before .before .grant-check .ensures) (c .before .k .given .1)
-
-returns-2 : tie.Need-returns-2
-unfolding grantDecision
-returns-2 c = rw (c .including32 .ensures) (pass-ruled _ _ _ _ _ tt (c .before .before .before .grant-check .ensures) (c .before .enum-told .given .1))
+returns c = rw (← c .before .including32 .ensures) (c .put-role .ensures _ tt (c .before .before .grant-check .ensures))
 
 pub decide-grant-spec : {M : Type 1} → statement M
-decide-grant-spec =
-    tie.close
-    (tie.spec (λ c κs. search needs) (λ c. search needs) (λ c. search needs) (λ c κs. search needs) returns returns-2)
+decide-grant-spec = tie.close (tie.spec (λ c κs. search needs) (λ c κs. search needs) (λ c κs. search needs) returns)

@@ -1,8 +1,8 @@
 use mathlib.Core.Path.{sym}
 use lib.Seq.{length-take-le}
 use borrow.Author.Needs.{needs}
-use Rattle.cases.proofs.emit.Statement.{statement}
-use Rattle.cases.proofs.emit.Tie as tie
+use Rattle.terminal.proofs.emit.Statement.{statement}
+use Rattle.terminal.proofs.emit.Tie as tie
 
 slice-aggregate-write-all : tie.Need-slice-aggregate-write-all
 slice-aggregate-write-all c = sym (length-take-le _ _ (c .before .if1 .taken))
