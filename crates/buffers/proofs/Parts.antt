@@ -3,10 +3,10 @@ use mathlib.Core.Path.{_≡_, sym, ap, _∙_}
 use mathlib.Core.List.{List, [], _∷_, _++_, append-assoc, append-nil}
 use Prim.Native.Nat.{ℕ, zero, suc, _+_, _-_, _/_, _^_, _≤_, _<_}
 use native.Mathlib.Nat.{pow-zero, pow-suc, div-div-eq-div-mul, div-one, sub-self, not-suc-le-zero, le-refl, add-assoc}
-use native.Mathlib.Numerals.{sub-one}
+use native.Mathlib.Numerals.{sub-one, add-one}
 use native.Mathlib.Omega.{arith}
 use lib.ListN.{length, take, drop, getD, set, length-drop, length-append, take-append-drop, drop-of-length-le}
-use lib.Seq.{take-suc, append-snoc, set-at, take-at, drop-at, drop-drop, take-all, length-take-le}
+use lib.Seq.{take-suc, append-snoc, set-at, set-split, take-at, drop-at, drop-drop, take-all, length-take-le}
 use borrow.Rule.Slice.PartMut.{putMid}
 use Rattle.masks.specs.Bytes.{front}
 
@@ -47,6 +47,12 @@ placed-append at xs ys s h =
     ∙ ap (λ (l : List ℕ). l ++ front ys (drop (at + length xs) (p ++ r))) (take-at p r (at + length xs) e)
     ∙ ap (λ (l : List ℕ). p ++ front ys l) (drop-at p r (at + length xs) e)
     ∙ simp (append-assoc, drop-drop, length-append, add-assoc)
+
+-- a turn of a loop that stores byte by byte
+pub placed-set : (i v : ℕ) (ys s : List ℕ) → i < length s → placed (i + 1) ys (set s i v) ≡ placed i (v ∷ ys) s
+placed-set i v ys s h =
+    let one : set s i v ≡ placed i (v ∷ []) s = set-split s i v h ∙ rw (drop-drop 1 i s, add-one) in
+    ap (placed (i + 1) ys) one ∙ placed-append i (v ∷ []) ys s (omega arith)
 
 pub placed-nil : (at : ℕ) (s : List ℕ) → placed at [] s ≡ s
 placed-nil at s = take-append-drop at s

@@ -12,9 +12,9 @@ ghost use Rattle.model.specs.Entry.{fitted, soleLine, entry, returned, bufferAf
 ghost use Rattle.calls.specs.Decide.{isOne};
 ghost use Rattle.fellunqa.specs.Perform.{performed};
 use calls::apply::apply_trusted;
+use calls::one::Indices;
 use calls::one::decide;
 use calls::one::put_back;
-use calls::one::view;
 use image::load;
 use image::save_trusted;
 use model::Answer;
@@ -23,8 +23,13 @@ use model::Refusal;
 use model::Register;
 use model::Request;
 use places::Task;
+use places::capability_place;
+use places::names_of;
+use places::parent_place;
+use places::role_place;
 use places::task_of;
 use revocation::columns::permissions_of;
+use slots::Slots;
 use text::answers::refusal_number;
 use text::parts::count_before;
 use text::requests::parse;
@@ -75,21 +80,48 @@ fn deliver(buffer: &mut [u8], r: Register, v: u32) -> i64
     v as i64
 }
 
-// The call of a request that changes only elements that it names. They are read, decided and put back here, since a reply by value
-// would be copied twice more.
+// The call of a request that changes only elements that it names. They are read here, since `view` and a reply by value would copy
+// the register four times more.
 fn answer_one(area: &mut [u8], r: Register, q: Request) -> i64
     requires { ⌜ T (wellFormed r) × T (isOne q) ⌝ }
     ensures { λ z. ⌜ (z ≡ returned (performed (length (now (area .entry))) r (callOf q))) × (now (area .exit) ≡ bufferAfter (performed (length (now (area .entry))) r (callOf q)) (now (area .entry))) ⌝ }
 {
     let permissions = permissions_of(r);
-    let seen = view(r, q);
-    let v = seen.slots;
+    let m = names_of(q);
+    let follow = m.follow;
+    let un = (m.user % 64) as usize;
+    let sn = (m.session % 64) as usize;
+    let session = r.sessions[sn];
+    let on = session.on;
+    let cn = (capability_place(follow, m.capability, on, r.count) % 256) as usize;
+    let capability = r.capabilities[cn];
+    let origin = capability.origin;
+    let rn = (role_place(follow, m.role, on, origin) % 32) as usize;
+    let pn = (parent_place(follow, m.parent, origin) % 256) as usize;
+    let role = r.roles[rn];
+    let parent = r.capabilities[pn];
+    let v = Slots {
+        clock: r.clock,
+        enrolled: r.enrolled,
+        count: r.count,
+        domain: r.domains[un],
+        role: role,
+        parent: parent,
+        capability: capability,
+        session: session,
+    };
     let d = decide(v, &permissions, q);
     let answer = d.answer;
     match answer {
         Answer::Value(n) => {
             let w = d.slots;
-            let at = seen.at;
+            let at = Indices {
+                user: un,
+                role: rn,
+                parent: pn,
+                capability: cn,
+                session: sn,
+            };
             let next = put_back(r, at, w);
             deliver(area, next, n)
         }

@@ -12,5 +12,9 @@ pub mod Reading
 pub mod Tables
 pub mod Whole
 pub mod RoundTrip
+pub mod ExactRecords
+pub mod ExactSections
+pub mod Exact
 pub mod Decoding
+pub mod Rest
 pub mod Calls

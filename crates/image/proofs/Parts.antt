@@ -6,11 +6,11 @@ use native.Mathlib.Nat.{pow-suc, pow-le-pow-right, sub-zero, zero-add, add-zero}
 use native.Mathlib.Numerals.{add-one}
 use native.Mathlib.Omega.{arith}
 use lib.ListN.{length, take, drop, getD, set, replicate}
-use lib.Seq.{set-split, take-suc-set, drop-set-lt, append-snoc, take-at, drop-drop, take-all}
+use lib.Seq.{take-suc-set, drop-set-lt, append-snoc, take-at, drop-drop, take-all}
 use lib.Arith.{digits-lt}
 use lib.Dec.{lit<}
 use borrow.Rule.Slice.PartMut.{putMid}
-use Rattle.buffers.proofs.Parts.{placed, placed-append, tail-back}
+use Rattle.buffers.proofs.Parts.{placed, placed-append, placed-set, tail-back}
 use Rattle.buffers.proofs.Digits.{Digits}
 use Rattle.masks.specs.Bytes.{bytesOf, numberFrom, numberOf, mapBytes, maskOf, firstBytes, front}
 
@@ -74,12 +74,6 @@ rest-step {A} f i k v d e h =
 -- what was written at the front is there again
 pub take-front : (xs s last : List ℕ) (n : ℕ) → last ≡ front xs s → n ≡ length xs → take n last ≡ xs
 take-front xs s last n e h = ap (take n) e ∙ take-at xs (drop (length xs) s) n (sym h)
-
--- a turn of a loop that stores byte by byte
-pub placed-set : (i v : ℕ) (ys s : List ℕ) → i < length s → placed (i + 1) ys (set s i v) ≡ placed i (v ∷ ys) s
-placed-set i v ys s h =
-    let one : set s i v ≡ placed i (v ∷ []) s = set-split s i v h ∙ rw (drop-drop 1 i s, add-one) in
-    ap (placed (i + 1) ys) one ∙ placed-append i (v ∷ []) ys s (omega arith)
 
 -- ---- maps, byte by byte
 

@@ -1,12 +1,14 @@
 -- What is read from bytes is in its range, and a law for each turn of a loop that reads.
 use mathlib.Core.Path.{_≡_, refl, sym, ap, _∙_}
+use mathlib.Core.Bool.{Bool, true, _&&_, and-assoc}
 use mathlib.Core.List.{List, [], _∷_, _++_}
 use Prim.Native.Nat.{ℕ, zero, suc, _+_, _-_, _*_, _/_, _%_, _^_, _≤_, _<_}
-use native.Mathlib.Nat.{pow-suc, pow-succ', mul-assoc, one-le-pow, one-mul, mul-le-mul-right}
+use native.Mathlib.Nat.{sub-zero, mul-suc, pow-suc, pow-succ', mul-assoc, one-le-pow, one-mul, mul-le-mul-right}
+use native.Mathlib.Numerals.{add-one}
 use native.Mathlib.Omega.{arith}
 use lib.Arith.{digits-lt}
 use lib.Dec.{T, leb, lit<}
-use lib.ListN.{length, take, drop, getD, set}
+use lib.ListN.{length, take, drop, getD, set, length-set}
 use lib.Seq.{drop-drop, getD-drop}
 use mir.Syntax.{Width}
 use mir.Val.{bits, Fits}
@@ -16,22 +18,23 @@ use Rattle.model.specs.declared.Capability.{Capability}
 use Rattle.model.specs.Fields.{Coding, plain, bitmap, mark, width, readField, readAll, readSet, readPresent, presentLength, capabilityCodings, readHead, readCapability, capabilityLength}
 use Rattle.model.specs.Image.{itemOr, readChosen, readCapabilities, afterCapabilities}
 use Rattle.image.specs.Codes.{Bytes, Fitting, Fitted}
+use Rattle.image.specs.Exact.{exactCapability, exactCapabilities, capabilitiesLength, exactSession, exactSessions}
 use Rattle.image.proofs.Numbers.{pow-256}
-use Rattle.image.proofs.Parts.{fill-step}
+use Rattle.image.proofs.Parts.{fill-step, fill-done}
 
 -- ---- bytes
 
 pub bytes-drop : (n : ℕ) (s : List ℕ) → Bytes s → Bytes (drop n s)
 bytes-drop n s h i = rw (getD-drop n s i 0) (h (n + i))
 
-bytes-first : (k : ℕ) (s : List ℕ) → Bytes s → Bytes (firstBytes k s)
+pub bytes-first : (k : ℕ) (s : List ℕ) → Bytes s → Bytes (firstBytes k s)
 bytes-first zero s h i = omega arith
 bytes-first (suc k) [] h zero = omega arith
 bytes-first (suc k) [] h (suc i) = bytes-first k [] h i
 bytes-first (suc k) (b ∷ s) h zero = h 0
 bytes-first (suc k) (b ∷ s) h (suc i) = bytes-first k s (λ j. h (suc j)) i
 
-length-first : (k : ℕ) (s : List ℕ) → length (firstBytes k s) ≡ k
+pub length-first : (k : ℕ) (s : List ℕ) → length (firstBytes k s) ≡ k
 length-first zero s = refl
 length-first (suc k) [] = ap suc (length-first k [])
 length-first (suc k) (b ∷ s) = ap suc (length-first k s)
@@ -139,10 +142,63 @@ after-turn n i at s next whole h en e =
 -- ---- sections
 
 -- a turn of the loop that reads k items of w bytes
-pub chosen-turn : {A : Type 0} (blank : A) (read : List ℕ → A) (w k i at m : ℕ) (v : A) (next : ℕ) (s : List ℕ) (f whole : List A) → i < k → i < length f
+chosen-turn : {A : Type 0} (blank : A) (read : List ℕ → A) (w k i at m : ℕ) (v : A) (next : ℕ) (s : List ℕ) (f whole : List A) → i < k → i < length f
     → v ≡ itemOr blank read (m % 2) (drop at s) → next ≡ m % 2 * w
     → take i f ++ readChosen blank read w m (k - i) (drop at s) ≡ whole
     → take (i + 1) (set f i v) ++ readChosen blank read w (m / 2) (k - (i + 1)) (drop (at + next) s) ≡ whole
 chosen-turn blank read w k i at m v next s f whole hk hf ev en h =
     let n : k - i ≡ suc (k - (i + 1)) = omega arith in
     fill-step f i v (readChosen blank read w (m / 2) (k - (i + 1)) (drop (at + next) s)) hf ∙ rw (ev, en, ← drop-drop) (rw n at h)
+
+-- the loop that reads k items of w bytes by a mask, of which i are read
+module _ {A : Type 0} (blank : A) (read : List ℕ → A) (w k : ℕ) where
+  pub record ChosenTo (s : List ℕ) (from mask : ℕ) (rows : List A) (at m i : ℕ) : Type 0 where
+    pub some : i ≤ k
+    pub filled : take i rows ++ readChosen blank read w m (k - i) (drop at s) ≡ readChosen blank read w mask k (drop from s)
+    pub near : at ≤ from + w * i
+    pub places : length rows ≡ k
+
+  pub chosen-start : (s : List ℕ) (from mask : ℕ) (rows : List A) → length rows ≡ k → ChosenTo s from mask rows from mask 0
+  chosen-start s from mask rows l = record { some = omega arith; filled = rw sub-zero; near = omega arith; places = l }
+
+  module _ {s : List ℕ} {from mask : ℕ} {rows : List A} {at m i : ℕ} (l : ChosenTo s from mask rows at m i) where
+    pub chosen-more : i < k → (v : A) (n : ℕ) → v ≡ itemOr blank read (m % 2) (drop at s) → (n ≡ m % 2 * w) × (n ≤ w)
+        → ChosenTo s from mask (set rows i v) (at + n) (m / 2) (i + 1)
+    chosen-more h v n ev en =
+        record {
+          some = omega arith;
+          filled = chosen-turn blank read w k i at m v n s rows _ h (omega (arith, l .places)) ev (en .0) (l .filled);
+          near = rw (add-one, mul-suc) (omega (arith, l .near, en .1));
+          places = simp length-set (l .places);
+        }
+
+    pub chosen-all : k ≤ i → rows ≡ readChosen blank read w mask k (drop from s)
+    chosen-all h =
+        let e : k - i ≡ 0 = omega arith in
+        sym (fill-done rows i (omega (arith, l .places))) ∙ (rw e at (l .filled))
+
+-- a turn of the loop that tests sessions
+pub sessions-turn : (i at m : ℕ) (s : List ℕ) (exact here : Bool) (next : ℕ) (whole : Bool) → i < 64
+    → here ≡ itemOr true exactSession (m % 2) (drop at s) → next ≡ m % 2 * 6
+    → (exact && exactSessions m (64 - i) (drop at s)) ≡ whole
+    → ((exact && here) && exactSessions (m / 2) (64 - (i + 1)) (drop (at + next) s)) ≡ whole
+sessions-turn i at m s exact here next whole h eh en e =
+    let n : 64 - i ≡ suc (64 - (i + 1)) = omega arith in
+    and-assoc exact here (exactSessions (m / 2) (64 - (i + 1)) (drop (at + next) s)) ∙ rw (eh, en, ← drop-drop) (rw n at e)
+
+-- a turn of the loop that reads n capabilities and tests them
+pub exact-turn : (n i at : ℕ) (s : List ℕ) (exact here : Bool) (next : ℕ) (whole : Bool) → i < n
+    → here ≡ exactCapability (drop at s) → next ≡ at + capabilityLength (drop at s)
+    → (exact && exactCapabilities (n - i) (drop at s)) ≡ whole
+    → ((exact && here) && exactCapabilities (n - (i + 1)) (drop next s)) ≡ whole
+exact-turn n i at s exact here next whole h eh en e =
+    let k : n - i ≡ suc (n - (i + 1)) = omega arith in
+    and-assoc exact here (exactCapabilities (n - (i + 1)) (drop next s)) ∙ rw (eh, en, ← drop-drop) (rw k at e)
+
+-- and finds where they end
+pub length-turn : (n i at : ℕ) (s : List ℕ) (next whole : ℕ) → i < n → next ≡ at + capabilityLength (drop at s)
+    → at + capabilitiesLength (n - i) (drop at s) ≡ whole → next + capabilitiesLength (n - (i + 1)) (drop next s) ≡ whole
+length-turn n i at s next whole h en e =
+    let k : n - i ≡ suc (n - (i + 1)) = omega arith in
+    let q : at + (capabilityLength (drop at s) + capabilitiesLength (n - (i + 1)) (drop (capabilityLength (drop at s)) (drop at s))) ≡ whole = rw k at e in
+    rw (en, ← drop-drop) (omega arith)

@@ -151,21 +151,24 @@ module _ (c : Capability) (h : CapabilityRanges c) where
     unfolding writeCapability more
     split = append-assoc (writeAll headCodings (headFields c)) (writePresent capabilityCodings (capabilityFields c)) rest
 
-    head-back : readHead (writeCapability c ++ rest) ≡ headFields c
+    pub head-back : readHead (writeCapability c ++ rest) ≡ headFields c
     unfolding readHead
     head-back = ap (readAll headCodings) split ∙ all-back headCodings (headFields c) more head-fits
 
-    map-back : getD (readHead (writeCapability c ++ rest)) 3 0 ≡ fieldMap (capabilityFields c)
+    pub map-back : getD (readHead (writeCapability c ++ rest)) 3 0 ≡ fieldMap (capabilityFields c)
     unfolding headFields
     map-back = ap (λ (l : List ℕ). getD l 3 0) head-back
 
     head-drop : drop 5 (writeCapability c ++ rest) ≡ more
     head-drop = ap (drop 5) split ∙ drop-at (writeAll headCodings (headFields c)) more 5 (head-size c)
 
+    pub fields-back : readPresent (getD (readHead (writeCapability c ++ rest)) 3 0) capabilityCodings (drop 5 (writeCapability c ++ rest)) ≡ capabilityFields c
+    unfolding more
+    fields-back = rw (map-back, head-drop) (present-back capabilityCodings (capabilityFields c) rest fields-fit)
+
     pub capability-back : readCapability (writeCapability c ++ rest) ≡ c
-    unfolding readCapability more
-    capability-back =
-        rw (map-back, head-drop, head-back, present-back capabilityCodings (capabilityFields c) rest fields-fit) (capability-same c)
+    unfolding readCapability
+    capability-back = rw (fields-back, head-back) (capability-same c)
 
     pub capability-length : capabilityLength (writeCapability c ++ rest) ≡ length (writeCapability c)
     unfolding capabilityLength writeCapability

@@ -32,23 +32,23 @@ abbrev pub readDomain : List ℕ → ℕ
 readDomain t = numberOf (firstBytes 1 t)
 
 module _ (r : Register) where
-  abbrev sessionsPart : List ℕ
+  abbrev pub sessionsPart : List ℕ
   sessionsPart = mapBytes 8 (activeSessions (r .sessions)) ++ writeChosen writeSession (activeSessions (r .sessions)) (r .sessions)
 
-  abbrev created : List Capability
+  abbrev pub created : List Capability
   created = take (r .count) (r .capabilities)
 
-  abbrev capabilitiesPart : List ℕ
+  abbrev pub capabilitiesPart : List ℕ
   capabilitiesPart = bytesOf 2 (r .count) ++ (writeCapabilities created ++ sessionsPart)
 
-  abbrev rolesPart : List ℕ
+  abbrev pub rolesPart : List ℕ
   rolesPart = mapBytes 4 (foundedRoles (r .roles)) ++ (writeChosen writeRole (foundedRoles (r .roles)) (r .roles) ++ capabilitiesPart)
 
-  abbrev usersPart : List ℕ
+  abbrev pub usersPart : List ℕ
   usersPart = mapBytes 8 (r .enrolled) ++ (writeChosen (bytesOf 1) (r .enrolled) (r .domains) ++ rolesPart)
 
 module _ (r : Register) (h : WellFormed r) where
-  users : Section 0 (bytesOf 1) readDomain 1 (length-bytes 1) 8 64 (r .enrolled) (r .domains) (rolesPart r) (usersPart r)
+  pub users : Section 0 (bytesOf 1) readDomain 1 (length-bytes 1) 8 64 (r .enrolled) (r .domains) (rolesPart r) (usersPart r)
   users =
       section-back 0 (bytesOf 1) readDomain 1 (length-bytes 1) 8 64 (r .enrolled) (r .domains) (rolesPart r) (usersPart r) refl (h .user-places) (h .enrolled)
       (kept 0 (bytesOf 1) readDomain (r .enrolled) (r .domains) 0
@@ -69,7 +69,7 @@ module _ (r : Register) (h : WellFormed r) where
       let e : 2 ^ length (r .roles) ≡ 2 ^ 32 = ap (λ (n : ℕ). 2 ^ n) (h .role-places) in
       omega (arith, where-small (λ (x : Role). x .founded) (r .roles))
 
-  roles : Section blankRole writeRole readRole 20 role-size 4 32 (foundedRoles (r .roles)) (r .roles) (capabilitiesPart r) (rolesPart r)
+  pub roles : Section blankRole writeRole readRole 20 role-size 4 32 (foundedRoles (r .roles)) (r .roles) (capabilitiesPart r) (rolesPart r)
   roles =
       section-back blankRole writeRole readRole 20 role-size 4 32 (foundedRoles (r .roles)) (r .roles) (capabilitiesPart r) (rolesPart r) refl (h .role-places) roles-small roles-kept
 
@@ -87,7 +87,7 @@ module _ (r : Register) (h : WellFormed r) where
       let e : 2 ^ length (r .sessions) ≡ 2 ^ 64 = ap (λ (n : ℕ). 2 ^ n) (h .session-places) in
       omega (arith, where-small (λ (s : Session). s .active) (r .sessions))
 
-  sessions : Section blankSession writeSession readSession 6 session-size 8 64 (activeSessions (r .sessions)) (r .sessions) [] (sessionsPart r)
+  pub sessions : Section blankSession writeSession readSession 6 session-size 8 64 (activeSessions (r .sessions)) (r .sessions) [] (sessionsPart r)
   sessions =
       section-back blankSession writeSession readSession 6 session-size 8 64 (activeSessions (r .sessions)) (r .sessions) [] (sessionsPart r)
       (ap (λ (l : List ℕ). mapBytes 8 (activeSessions (r .sessions)) ++ l) (sym (append-nil (writeChosen writeSession (activeSessions (r .sessions)) (r .sessions)))))
@@ -95,10 +95,10 @@ module _ (r : Register) (h : WellFormed r) where
 
   -- ---- the capabilities
 
-  amount : length (created r) ≡ r .count
+  pub amount : length (created r) ≡ r .count
   amount = length-take-le (r .count) (r .capabilities) (omega (arith, h .count, h .capability-places))
 
-  ranges : AllInRange (created r)
+  pub ranges : AllInRange (created r)
   ranges =
       in-range (created r) blankCapability
       (λ n l. let k : n < r .count = omega (arith, amount) in
@@ -113,13 +113,13 @@ module _ (r : Register) (h : WellFormed r) where
       ∙ h .capabilities-blank (r .count + i) (omega arith) (omega arith)
       ∙ sym (getD-replicate (256 - r .count) i blankCapability blankCapability k))
 
-  count-back : numberOf (firstBytes 2 (capabilitiesPart r)) ≡ r .count
+  pub count-back : numberOf (firstBytes 2 (capabilitiesPart r)) ≡ r .count
   count-back = number-back 2 (r .count) (writeCapabilities (created r) ++ sessionsPart r) (omega (arith, h .count))
 
-  few : min 256 (r .count) ≡ r .count
+  pub few : min 256 (r .count) ≡ r .count
   few = min-eq-right (h .count)
 
-  count-drop : drop 2 (capabilitiesPart r) ≡ writeCapabilities (created r) ++ sessionsPart r
+  pub count-drop : drop 2 (capabilitiesPart r) ≡ writeCapabilities (created r) ++ sessionsPart r
   count-drop = drop-at (bytesOf 2 (r .count)) (writeCapabilities (created r) ++ sessionsPart r) 2 (length-bytes 2 (r .count))
 
   created-back : readCapabilities (r .count) (drop 2 (capabilitiesPart r)) ≡ created r
@@ -134,7 +134,7 @@ module _ (r : Register) (h : WellFormed r) where
       ∙ ap (λ (l : List Capability). created r ++ l) (sym blank-rest)
       ∙ take-append-drop (r .count) (r .capabilities)
 
-  created-after : afterCapabilities (r .count) (drop 2 (capabilitiesPart r)) ≡ sessionsPart r
+  pub created-after : afterCapabilities (r .count) (drop 2 (capabilitiesPart r)) ≡ sessionsPart r
   created-after =
       ap (afterCapabilities (r .count)) count-drop
       ∙ ap (λ (n : ℕ). afterCapabilities n (writeCapabilities (created r) ++ sessionsPart r)) (sym amount)

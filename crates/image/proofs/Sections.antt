@@ -90,7 +90,7 @@ module _ {A : Type 0} (blank : A) (write : A → List ℕ) (read : List ℕ → 
   item-back (suc b) a rest h = h rest
 
   module _ (w : ℕ) (sizes : (a : A) → length (write a) ≡ w) where
-    item-length : (b : ℕ) (a : A) → b < 2 → length (chosen b (write a)) ≡ b * w
+    pub item-length : (b : ℕ) (a : A) → b < 2 → length (chosen b (write a)) ≡ b * w
     item-length zero a l = sym (zero-mul w)
     item-length (suc zero) a l = sizes a ∙ sym (one-mul w)
     item-length (suc (suc b)) a l = absurd (too-large b l)

@@ -1,9 +1,10 @@
 -- The code's tables and the definitions' lists of codings say the same.
 use mathlib.Core.Path.{_≡_, refl, sym, ap, _∙_}
+use mathlib.Core.Bool.{_&&_}
 use mathlib.Core.List.{List, [], _∷_, _++_}
 use Prim.Native.Nat.{ℕ, _+_, _≤_, _<_}
 use native.Mathlib.Omega.{arith}
-use lib.Dec.{T}
+use lib.Dec.{T, eqb, ltb}
 use lib.ListN.{length, drop, getD, length-append}
 use lib.Seq.{drop-drop}
 use Rattle.model.specs.declared.Role.{Role}
@@ -11,7 +12,7 @@ use Rattle.model.specs.declared.Capability.{Capability}
 use Rattle.model.specs.declared.Session.{Session}
 use Rattle.model.specs.Fields.{Coding, fieldMap, writeAll, readAll, writePresent, readPresent, presentLength, roleCodings, roleFields, writeRole, roleOf, readRole, sessionCodings, sessionFields, writeSession, sessionOf, readSession, headCodings, headFields, capabilityCodings, capabilityFields, writeCapability, capabilityOf, readHead, readCapability, capabilityLength}
 use Rattle.image.specs.Codes.{Bytes, Fitted, codingOf, codings, narrow, roleCodes, sessionCodes, headCodes, capabilityCodes, writeHead, writeFields}
-use Rattle.image.proofs.Fields.{present-length}
+use Rattle.image.specs.Exact.{exactCapability}
 use Rattle.image.proofs.Records.{head-size}
 use Rattle.image.proofs.Reading.{bytes-drop, fitted-all, fitted-present}
 
@@ -84,13 +85,6 @@ capability-amount c = refl
 pub present-amount : (codes values : List ℕ) (c : Capability) → codes ≡ capabilityCodes → values ≡ capabilityFields c → length codes ≡ length values
 present-amount codes values c e f = ap length e ∙ capability-amount c ∙ sym (ap length f)
 
-pub size-is : (c : Capability) (codes values : List ℕ) (map n : ℕ) → codes ≡ capabilityCodes → values ≡ capabilityFields c → map ≡ fieldMap values
-    → n ≡ presentLength map (codings codes) → 5 + n ≡ length (writeCapability c)
-unfolding writeCapability
-size-is c codes values map n e f g h =
-    let same : n ≡ presentLength (fieldMap (capabilityFields c)) capabilityCodings = h ∙ rw (g, f, e, capability-codes .same) in
-    rw length-append (omega (arith, present-length capabilityCodings (capabilityFields c), head-size c))
-
 pub capability-parts : (c : Capability) → writeCapability c ≡ writeHead c ++ writeFields c
 unfolding writeCapability writeHead writeFields
 capability-parts c = refl
@@ -141,6 +135,11 @@ module _ (s h codes f : List ℕ) (at : ℕ) (b : Bytes s) (eh : h ≡ readHead 
   capability-reads =
       ap (capabilityOf h) (present-is ∙ ap (readPresent (getD h 3 0) capabilityCodings) (sym (drop-drop 5 at s)))
       ∙ ap (λ (l : List ℕ). capabilityOf l (readPresent (getD l 3 0) capabilityCodings (drop 5 (drop at s)))) eh
+
+  pub exact-reads : (g : ℕ) → g ≡ fieldMap f → (ltb (getD h 0 0) 2 && eqb g (getD h 3 0)) ≡ exactCapability (drop at s)
+  exact-reads g eg =
+      ap (λ (x : ℕ). ltb (getD h 0 0) 2 && eqb x (getD h 3 0)) (eg ∙ ap fieldMap (present-is ∙ ap (readPresent (getD h 3 0) capabilityCodings) (sym (drop-drop 5 at s))))
+      ∙ ap (λ (l : List ℕ). ltb (getD l 0 0) 2 && eqb (fieldMap (readPresent (getD l 3 0) capabilityCodings (drop 5 (drop at s)))) (getD l 3 0)) eh
 
 pub length-reads : (s h codes : List ℕ) (at n : ℕ) → h ≡ readHead (drop at s) → codes ≡ capabilityCodes → n ≡ presentLength (getD h 3 0) (codings codes)
     → at + 5 + n ≡ at + capabilityLength (drop at s)

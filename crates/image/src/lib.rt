@@ -1,20 +1,20 @@
 // The image of the register: document 01, "The image", and the calls save and load.
 ghost use mathlib.Core.Path.{_≡_};
 ghost use mathlib.Core.Bool.{false, cond};
-ghost use Rattle.masks.specs.Bytes.{sameBytes};
 ghost use lib.Dec.{T};
 ghost use lib.ListN.{length};
 ghost use Rattle.model.specs.State.{fresh};
 ghost use Rattle.model.specs.Rules.{wellFormed};
 ghost use Rattle.model.specs.Requests.{outcomeOf};
-ghost use Rattle.model.specs.Image.{encode, decode, loads, saveEffect, savedBuffer};
+ghost use Rattle.model.specs.Image.{decode, loads, saveEffect, savedBuffer};
 use crate::loader::read_image;
-use crate::writer::image_size;
 use crate::writer::put_image;
-use buffers::same_bytes;
+use buffers::put_bytes;
 use model::Answer;
 use model::Refusal;
 use model::Register;
+use rules::well_formed;
+use rules::well_formed_read;
 
 mod field;
 mod loader;
@@ -24,16 +24,21 @@ mod record;
 mod section;
 mod writer;
 
-// Saves a register that keeps the rules, without testing them.
+// Saves a register that keeps the rules, without testing them. A buffer that may be too short gets the image by way of another.
 pub fn save_trusted(r: Register, buffer: &mut [u8]) -> Answer
     requires { ⌜ T (wellFormed r) ⌝ }
     ensures { λ q. ⌜ (outcomeOf q ≡ (saveEffect r (length (now (buffer .entry)))) .answer) × (now (buffer .exit) ≡ savedBuffer r (now (buffer .entry)) ((saveEffect r (length (now (buffer .entry)))) .answer)) ⌝ }
 {
-    let n = image_size(r);
+    if 13402 <= buffer.len() {
+        let n = put_image(buffer, r);
+        return Answer::Value(n as u32);
+    }
+    let mut image = [0u8; 13402];
+    let n = put_image(&mut image, r);
     if buffer.len() < n {
         return Answer::Refused(Refusal::Room);
     }
-    put_image(buffer, r);
+    put_bytes(buffer, &image[..n]);
     Answer::Value(n as u32)
 }
 
@@ -41,7 +46,7 @@ pub fn save_trusted(r: Register, buffer: &mut [u8]) -> Answer
 pub fn save(r: Register, buffer: &mut [u8]) -> Answer
     ensures { λ q. ⌜ (outcomeOf q ≡ (saveEffect r (length (now (buffer .entry)))) .answer) × (now (buffer .exit) ≡ savedBuffer r (now (buffer .entry)) ((saveEffect r (length (now (buffer .entry)))) .answer)) ⌝ }
 {
-    let formed = rules::well_formed(r);
+    let formed = well_formed(r);
     if !formed {
         return Answer::Refused(Refusal::Broken);
     }
@@ -63,28 +68,16 @@ fn not_loaded() -> Loaded
     }
 }
 
-// Whether s is the image of r, which keeps the rules.
-fn is_image(r: Register, s: &[u8]) -> bool
-    requires { ⌜ T (wellFormed r) ⌝ }
-    ensures { λ q. ⌜ q ≡ sameBytes (encode r) (now (s .entry)) ⌝ }
-{
-    let mut again = [0u8; 13402];
-    let n = put_image(&mut again, r);
-    same_bytes(&again[..n], s)
-}
-
 // "load an image. 14 only: not exactly the layout below, a number out of range, or a shelf rule broken." What is loaded is the
 // register whose image it is; else it is not ok, and the register is fresh.
 pub fn load(s: &[u8]) -> Loaded
     ensures { λ q. ⌜ (q .ok ≡ loads (now (s .entry))) × (q .register ≡ cond (loads (now (s .entry))) (decode (now (s .entry))) fresh) ⌝ }
 {
-    let register = read_image(s);
-    let formed = rules::well_formed(register);
-    if !formed {
+    let read = read_image(s);
+    let register = read.register;
+    let formed = well_formed_read(register);
+    if !(formed & read.exact) {
         return not_loaded();
     }
-    if is_image(register, s) {
-        return Loaded { ok: true, register };
-    }
-    not_loaded()
+    Loaded { ok: true, register }
 }

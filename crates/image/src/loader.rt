@@ -1,13 +1,14 @@
 // The sections of an image read without refusing: what has no bit of its map is blank.
 ghost use mathlib.Core.Path.{_≡_};
-ghost use mathlib.Core.List.{_++_};
-ghost use Prim.Native.Nat.{_+_, _-_, _*_, _<_, _≤_, min};
-ghost use lib.ListN.{length, drop, replicate};
+ghost use mathlib.Core.Bool.{true};
+ghost use Prim.Native.Nat.{_<_, min};
+ghost use lib.ListN.{length, drop};
 ghost use Rattle.masks.specs.Bytes.{numberOf, firstBytes};
 ghost use Rattle.model.specs.State.{blankRole, blankCapability, blankSession};
 ghost use Rattle.model.specs.Fields.{readRole, readSession};
-ghost use Rattle.model.specs.Image.{itemOr, readChosen, readCapabilities, afterCapabilities, decode};
+ghost use Rattle.model.specs.Image.{itemOr, readChosen, decode};
 ghost use Rattle.image.specs.Codes.{Bytes};
+ghost use Rattle.image.specs.Exact.{exactSession, exactSessions, exactImage, exactFrom, registerFrom};
 use crate::field::if_set;
 use crate::number::byte_at;
 use crate::number::byte_count;
@@ -17,11 +18,12 @@ use crate::reader::read_capability;
 use crate::reader::read_role;
 use crate::reader::read_session;
 use crate::section::chosen_length;
-use model::Capability;
-use model::Origin;
 use model::Register;
 use model::Role;
 use model::Session;
+use model::blank_capability;
+use model::blank_role;
+use model::blank_session;
 
 fn read_domain_if(s: &[u8], at: usize, bit: u64) -> u8
     requires { ⌜ (at < 60000) × Bytes (now s) ⌝ }
@@ -52,26 +54,12 @@ fn read_domains(s: &[u8], from: usize, mask: u64) -> [u8; 64]
     domains
 }
 
-fn no_role() -> Role
-    ensures { λ q. ⌜ q ≡ blankRole ⌝ }
-{
-    Role {
-        founded: false,
-        domain: 0,
-        permissions: 0,
-        hours: 0,
-        places: 0,
-        devices: 0,
-        appointed: 0,
-    }
-}
-
 fn read_role_if(s: &[u8], at: usize, bit: u64) -> Role
     requires { ⌜ (at < 60000) × Bytes (now s) ⌝ }
     ensures { λ q. ⌜ q ≡ itemOr blankRole readRole bit (drop at (now (s .entry))) ⌝ }
 {
     if bit == 0 {
-        return no_role();
+        return blank_role();
     }
     read_role(s, at)
 }
@@ -80,7 +68,7 @@ fn read_roles(s: &[u8], from: usize, mask: u64) -> [Role; 32]
     requires { ⌜ (from < 50000) × Bytes (now s) ⌝ }
     ensures { λ q. ⌜ q ≡ readChosen blankRole readRole 20 mask 32 (drop from (now (s .entry))) ⌝ }
 {
-    let none = no_role();
+    let none = blank_role();
     let mut roles = [none; 32];
     let mut at = from;
     let mut m = mask;
@@ -95,25 +83,12 @@ fn read_roles(s: &[u8], from: usize, mask: u64) -> [Role; 32]
     roles
 }
 
-fn no_session() -> Session
-    ensures { λ q. ⌜ q ≡ blankSession ⌝ }
-{
-    Session {
-        active: false,
-        user: 0,
-        on: Origin::Role(0),
-        hour: 0,
-        place: 0,
-        device: 0,
-    }
-}
-
 fn read_session_if(s: &[u8], at: usize, bit: u64) -> Session
     requires { ⌜ (at < 60000) × Bytes (now s) ⌝ }
     ensures { λ q. ⌜ q ≡ itemOr blankSession readSession bit (drop at (now (s .entry))) ⌝ }
 {
     if bit == 0 {
-        return no_session();
+        return blank_session();
     }
     read_session(s, at)
 }
@@ -122,7 +97,7 @@ fn read_sessions(s: &[u8], from: usize, mask: u64) -> [Session; 64]
     requires { ⌜ (from < 50000) × Bytes (now s) ⌝ }
     ensures { λ q. ⌜ q ≡ readChosen blankSession readSession 6 mask 64 (drop from (now (s .entry))) ⌝ }
 {
-    let none = no_session();
+    let none = blank_session();
     let mut sessions = [none; 64];
     let mut at = from;
     let mut m = mask;
@@ -137,54 +112,6 @@ fn read_sessions(s: &[u8], from: usize, mask: u64) -> [Session; 64]
     sessions
 }
 
-fn no_capability() -> Capability
-    ensures { λ q. ⌜ q ≡ blankCapability ⌝ }
-{
-    Capability {
-        origin: Origin::Role(0),
-        creator: 0,
-        permissions: 0,
-        lent: 0,
-        holders: 0,
-        first: 0,
-        last: 0,
-        use_limit: 0,
-        uses: 0,
-        creation_limit: 0,
-        creations: 0,
-        hop_limit: 0,
-        hops: 0,
-        hours: 0,
-        places: 0,
-        devices: 0,
-        revoked: false,
-    }
-}
-
-pub struct ReadCapabilities {
-    pub rows: [Capability; 256],
-    pub next: usize,
-}
-
-// n capabilities from `from` on and blank ones after them, and the place after them.
-fn read_capabilities(s: &[u8], from: usize, n: usize) -> ReadCapabilities
-    requires { ⌜ (from < 20000) × (n ≤ 256) × Bytes (now s) ⌝ }
-    ensures { λ q. ⌜ (q .rows ≡ readCapabilities n (drop from (now (s .entry))) ++ replicate (256 - n) blankCapability) × (drop (q .next) (now (s .entry)) ≡ afterCapabilities n (drop from (now (s .entry)))) × (q .next ≤ from + 48 * n) ⌝ }
-{
-    let none = no_capability();
-    let mut rows = [none; 256];
-    let mut at = from;
-    let mut i = 0;
-    while i < n {
-        let read = read_capability(s, at);
-        let c = read.capability;
-        rows[i] = c;
-        at = read.next;
-        i += 1;
-    }
-    ReadCapabilities { rows, next: at }
-}
-
 // At most 256.
 fn at_most(n: u64) -> usize
     ensures { λ q. ⌜ q ≡ min 256 n ⌝ }
@@ -192,9 +119,89 @@ fn at_most(n: u64) -> usize
     if 256 < n { 256 } else { n as usize }
 }
 
-// The register in an image, read without refusing.
-pub fn read_image(s: &[u8]) -> Register
-    ensures { λ q. ⌜ q ≡ decode (now (s .entry)) ⌝ }
+// Whether the session at `at` is written exactly so, where its bit is set.
+fn session_exact_if(s: &[u8], at: usize, bit: u64) -> bool
+    requires { ⌜ at < 60000 ⌝ }
+    ensures { λ q. ⌜ q ≡ itemOr true exactSession bit (drop at (now (s .entry))) ⌝ }
+{
+    if bit == 0 {
+        return true;
+    }
+    byte_at(s, at + 1) < 2
+}
+
+// Whether the sessions of a mask are written exactly so.
+fn sessions_exact(s: &[u8], from: usize, mask: u64) -> bool
+    requires { ⌜ from < 50000 ⌝ }
+    ensures { λ q. ⌜ q ≡ exactSessions mask 64 (drop from (now (s .entry))) ⌝ }
+{
+    let mut exact = true;
+    let mut at = from;
+    let mut m = mask;
+    let mut i: usize = 0;
+    while i < 64 {
+        let bit = m % 2;
+        exact = exact & session_exact_if(s, at, bit);
+        at += if_set(bit, 6);
+        m = m / 2;
+        i += 1;
+    }
+    exact
+}
+
+pub struct ReadImage {
+    pub exact: bool,
+    pub register: Register,
+}
+
+// The count at `from`, the capabilities and the sessions, which end the image, after what comes before them.
+fn read_rest(
+    s: &[u8],
+    from: usize,
+    clock: u32,
+    enrolled: u64,
+    domains: [u8; 64],
+    roles: [Role; 32],
+) -> ReadImage
+    requires { ⌜ (from < 20000) × Bytes (now s) ⌝ }
+    ensures { λ q. ⌜ (q .register ≡ registerFrom clock enrolled domains roles (drop from (now (s .entry)))) × (q .exact ≡ exactFrom from (length (now (s .entry))) (drop from (now (s .entry)))) ⌝ }
+{
+    let count = get_at(s, from, 2);
+    let n = at_most(count);
+    let none = blank_capability();
+    let mut rows = [none; 256];
+    let mut exact = true;
+    let mut at = from + 2;
+    let mut i = 0;
+    while i < n {
+        let read = read_capability(s, at);
+        let c = read.capability;
+        rows[i] = c;
+        exact = exact & read.exact;
+        at = read.next;
+        i += 1;
+    }
+    let active = get_map(s, at, 8);
+    let ends = at + 8 + chosen_length(6, active, 64) == s.len();
+    let kinds = sessions_exact(s, at + 8, active);
+    let sessions = read_sessions(s, at + 8, active);
+    ReadImage {
+        exact: exact & kinds & ends,
+        register: Register {
+            clock,
+            enrolled,
+            domains,
+            roles,
+            count: count as u16,
+            capabilities: rows,
+            sessions,
+        },
+    }
+}
+
+// The register in an image, read without refusing, and whether the bytes are what that register saves, if it keeps the rules.
+pub fn read_image(s: &[u8]) -> ReadImage
+    ensures { λ q. ⌜ (q .register ≡ decode (now (s .entry))) × (q .exact ≡ exactImage (now (s .entry))) × Bytes (now (s .entry)) ⌝ }
 {
     let _length = byte_count(s);
     let clock = get_at(s, 0, 4) as u32;
@@ -204,19 +211,5 @@ pub fn read_image(s: &[u8]) -> Register
     let founded = get_map(s, roles_at, 4);
     let roles = read_roles(s, roles_at + 4, founded);
     let count_at = roles_at + 4 + chosen_length(20, founded, 32);
-    let count = get_at(s, count_at, 2);
-    let read = read_capabilities(s, count_at + 2, at_most(count));
-    let capabilities = read.rows;
-    let sessions_at = read.next;
-    let active = get_map(s, sessions_at, 8);
-    let sessions = read_sessions(s, sessions_at + 8, active);
-    Register {
-        clock,
-        enrolled,
-        domains,
-        roles,
-        count: count as u16,
-        capabilities,
-        sessions,
-    }
+    read_rest(s, count_at, clock, enrolled, domains, roles)
 }

@@ -8,7 +8,8 @@ ghost use Rattle.model.specs.State.{blankRole, blankCapability, blankSession};
 ghost use Rattle.model.specs.Fields.{originOf, roleCodings, roleOf, readRole, sessionCodings, sessionOf, readSession, headCodings, capabilityCodings, capabilityOf, readHead, readCapability, capabilityLength};
 ghost use Rattle.model.specs.Image.{itemOr, readChosen, readCapabilities, afterCapabilities};
 ghost use Rattle.image.specs.Codes.{Bytes, Fitted};
-use crate::field::if_set;
+ghost use Rattle.image.specs.Exact.{exactCapability};
+use crate::field::field_map;
 use crate::field::present_length;
 use crate::field::read_all;
 use crate::field::read_present;
@@ -122,21 +123,25 @@ fn read_head(s: &[u8], at: usize) -> [u64; 4]
 }
 
 pub struct ReadCapability {
+    pub exact: bool,
     pub capability: Capability,
     pub next: usize,
 }
 
-// The capability at `at`, and the place after it.
+// The capability at `at`, whether it is written exactly so, and the place after it.
 pub fn read_capability(s: &[u8], at: usize) -> ReadCapability
     requires { ⌜ (at < 50000) × Bytes (now s) ⌝ }
-    ensures { λ q. ⌜ (q .capability ≡ readCapability (drop at (now (s .entry)))) × (q .next ≡ at + capabilityLength (drop at (now (s .entry)))) ⌝ }
+    ensures { λ q. ⌜ (q .capability ≡ readCapability (drop at (now (s .entry)))) × (q .next ≡ at + capabilityLength (drop at (now (s .entry)))) × (q .exact ≡ exactCapability (drop at (now (s .entry)))) ⌝ }
 {
     let h = read_head(s, at);
+    let kind = h[0];
     let map = h[3];
     let codes = capability_codes();
     let mut f = [0u64; 15];
     read_present(s, at + 5, map, &codes, &mut f);
+    let set = field_map(&f);
     ReadCapability {
+        exact: (kind < 2) & (set == map),
         capability: capability_of(h, f),
         next: at + 5 + present_length(map, &codes),
     }

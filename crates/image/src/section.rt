@@ -8,7 +8,6 @@ ghost use Rattle.model.specs.Image.{chosen, writeChosen, chosenLength, foundedR
 use crate::field::if_set;
 use crate::number::put;
 use crate::record::bit_of;
-use crate::record::capability_size;
 use crate::record::put_capability;
 use crate::record::put_role;
 use crate::record::put_session;
@@ -158,18 +157,4 @@ pub fn put_capabilities(s: &mut [u8], capabilities: [Capability; 256], count: us
         i += 1;
     }
     at
-}
-
-// The bytes of the first count capabilities.
-pub fn capabilities_size(capabilities: [Capability; 256], count: usize) -> usize
-    requires { ⌜ count ≤ 256 ⌝ }
-    ensures { λ q. ⌜ (q ≡ length (writeCapabilities (take count capabilities))) × (q ≤ 12288) ⌝ }
-{
-    let mut n = 0;
-    let mut i = 0;
-    while i < count {
-        n += capability_size(capabilities[i]);
-        i += 1;
-    }
-    n
 }

@@ -9,8 +9,6 @@ ghost use Rattle.image.specs.Codes.{mapped, counted};
 use crate::number::put;
 use crate::number::put_map;
 use crate::section::active_mask;
-use crate::section::capabilities_size;
-use crate::section::chosen_length;
 use crate::section::founded_mask;
 use crate::section::put_capabilities;
 use crate::section::put_domains;
@@ -81,19 +79,4 @@ pub fn put_image(s: &mut [u8], r: Register) -> usize
     let sessions_at = count_at + created;
     let active = put_active(&mut s[sessions_at..], sessions);
     sessions_at + active
-}
-
-// The length of a register's image.
-pub fn image_size(r: Register) -> usize
-    requires { ⌜ r .count ≤ 256 ⌝ }
-    ensures { λ q. ⌜ (q ≡ length (encode r)) × (q ≤ 13402) ⌝ }
-{
-    let roles = r.roles;
-    let capabilities = r.capabilities;
-    let sessions = r.sessions;
-    let users = chosen_length(1, r.enrolled, 64);
-    let founded = chosen_length(20, founded_mask(roles), 32);
-    let created = capabilities_size(capabilities, r.count as usize);
-    let active = chosen_length(6, active_mask(sessions), 64);
-    26 + users + founded + created + active
 }

@@ -1,6 +1,6 @@
 // The register by value and all that it holds, requests and answers. A capability is document 01's pass.
 ghost use mathlib.Core.Path.{_≡_};
-ghost use Rattle.model.specs.State.{fresh as freshRegister};
+ghost use Rattle.model.specs.State.{blankRole, blankCapability, blankSession, fresh as freshRegister};
 
 // What a capability is derived from, and what a session is opened on: a role or a capability, by number.
 pub enum Origin {
@@ -143,11 +143,11 @@ pub enum Parsed {
     NoRequest,
 }
 
-// "A fresh register has clock 0 and nothing else."
-pub fn fresh() -> Register
-    ensures { λ r. ⌜ r ≡ freshRegister ⌝ }
+// A role before it is founded.
+pub fn blank_role() -> Role
+    ensures { λ q. ⌜ q ≡ blankRole ⌝ }
 {
-    let role = Role {
+    Role {
         founded: false,
         domain: 0,
         permissions: 0,
@@ -155,8 +155,14 @@ pub fn fresh() -> Register
         places: 0,
         devices: 0,
         appointed: 0,
-    };
-    let capability = Capability {
+    }
+}
+
+// A capability before it is created.
+pub fn blank_capability() -> Capability
+    ensures { λ q. ⌜ q ≡ blankCapability ⌝ }
+{
+    Capability {
         origin: Origin::Role(0),
         creator: 0,
         permissions: 0,
@@ -174,15 +180,30 @@ pub fn fresh() -> Register
         places: 0,
         devices: 0,
         revoked: false,
-    };
-    let session = Session {
+    }
+}
+
+// A session before it is opened.
+pub fn blank_session() -> Session
+    ensures { λ q. ⌜ q ≡ blankSession ⌝ }
+{
+    Session {
         active: false,
         user: 0,
         on: Origin::Role(0),
         hour: 0,
         place: 0,
         device: 0,
-    };
+    }
+}
+
+// "A fresh register has clock 0 and nothing else."
+pub fn fresh() -> Register
+    ensures { λ r. ⌜ r ≡ freshRegister ⌝ }
+{
+    let role = blank_role();
+    let capability = blank_capability();
+    let session = blank_session();
     Register {
         clock: 0,
         enrolled: 0,

@@ -6,9 +6,10 @@ ghost use Rattle.model.specs.State.{capabilityAt};
 ghost use Rattle.model.specs.Rules.{capabilityBlank, inRange, ownKeeps, placeKeeps};
 ghost use Rattle.rules.specs.Limits.{capabilityWith, placeWith};
 use crate::bits::has64;
-use crate::columns::children_table;
+use crate::columns::bump;
 use crate::columns::founded_roles;
 use crate::columns::lent_authority;
+use crate::columns::places;
 use crate::columns::role_permissions;
 use crate::limits::Limits;
 use crate::limits::is_below;
@@ -102,7 +103,8 @@ pub fn keeps_place(
     }
 }
 
-// The rules of the places below the bound, up to the first that breaks them.
+// The rules of the places below the bound, up to the first that breaks them. How many were created from each capability is counted
+// first; a function of its own for that would copy the register.
 pub fn capabilities_keep(r: Register, bound: usize) -> bool
     requires { ⌜ bound ≤ 256 ⌝ }
     ensures { λ q. ⌜ (r .count ≤ 256 → q ≡ allBelow bound (λ n. placeKeeps (r .enrolled) (r .roles) (r .count) (r .capabilities) n (capabilityAt (r .capabilities) n))) ⌝ }
@@ -110,7 +112,15 @@ pub fn capabilities_keep(r: Register, bound: usize) -> bool
     let roles = r.roles;
     let permissions = role_permissions(roles);
     let founded = founded_roles(roles);
-    let table = children_table(r);
+    let created = places(r.count);
+    let mut table = [0u16; 256];
+    let mut n: usize = 0;
+    while n < created {
+        let c = r.capabilities[n];
+        let o = c.origin;
+        bump(&mut table, o);
+        n = n + 1;
+    }
     let enrolled = r.enrolled;
     let count = r.count;
     let mut i: usize = 0;

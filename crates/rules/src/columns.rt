@@ -4,12 +4,11 @@ ghost use Prim.Native.Nat.{ℕ, _<_, _≤_};
 ghost use lib.ListN.{getD};
 ghost use Rattle.masks.specs.Masks.{joined};
 ghost use Rattle.model.specs.State.{roleAt};
-ghost use Rattle.rules.specs.Columns.{masked, isFounded, inDomain, bumped, tally};
+ghost use Rattle.rules.specs.Columns.{masked, isFounded, inDomain, bumped};
 ghost use Rattle.rules.specs.Limits.{numberOf};
 use crate::bits::gained;
 use crate::bits::single;
 use model::Origin;
-use model::Register;
 use model::Role;
 
 // The permissions of each role.
@@ -99,20 +98,4 @@ pub fn places(count: u16) -> usize
     ensures { λ q. ⌜ (q ≤ 256) × (count ≤ 256 → q ≡ count) ⌝ }
 {
     if count <= 256 { count as usize } else { 256 }
-}
-
-// How many capabilities were created from each.
-pub fn children_table(r: Register) -> [u16; 256]
-    ensures { λ q. ⌜ (r .count ≤ 256 → q ≡ tally (r .capabilities) (r .count)) ⌝ }
-{
-    let bound = places(r.count);
-    let mut table = [0u16; 256];
-    let mut i: usize = 0;
-    while i < bound {
-        let c = r.capabilities[i];
-        let o = c.origin;
-        bump(&mut table, o);
-        i = i + 1;
-    }
-    table
 }

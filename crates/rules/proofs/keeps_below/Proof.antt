@@ -31,8 +31,7 @@ pub keeps-below-spec : {M : Type 1} → statement M
 keeps-below-spec =
     tie.close
     (tie.spec
-    (λ c κs. search needs)
-    (λ c κs. search needs)
+    (λ c κs. search needs) (λ c κs. search needs)
     capabilities-keep-requires
     (λ c κs. search needs)
     returns)

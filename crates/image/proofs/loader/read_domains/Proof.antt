@@ -1,60 +1,32 @@
 -- `image::loader::read_domains` meets its contract.
-use mathlib.Core.Path.{_≡_, refl, sym, _∙_}
-use mathlib.Core.List.{_++_}
-use Prim.Native.Nat.{_+_, _-_, _*_, _≤_}
+use Prim.Native.Nat.{_-_}
 use native.Mathlib.Omega.{arith}
-use lib.ListN.{length, take, drop, length-set}
 use Rattle.image.proofs.RoundTrip.{readDomain}
-use Rattle.model.specs.Image.{readChosen}
-use Rattle.image.proofs.Parts.{fill-done}
-use Rattle.image.proofs.Reading.{chosen-turn}
+use Rattle.image.proofs.Reading.{ChosenTo, chosen-start, chosen-more, chosen-all}
 use borrow.Author.Needs.{needs}
 use Rattle.image.proofs.loader.read_domains.Statement.{statement}
 use Rattle.image.proofs.loader.read_domains.Tie as tie
 
 abbrev Inv-loop : tie.InvT-loop
-Inv-loop s from mask domains₀ at₀ m₀ i₀ domains at m i =
-    (i ≤ 64) × (take i domains ++ readChosen 0 readDomain 1 m (64 - i) (drop at s) ≡ readChosen 0 readDomain 1 mask 64 (drop from s)) × (at ≤ from + 1 * i) × (length domains ≡ 64)
+Inv-loop s from mask domains₀ at₀ m₀ i₀ domains at m i = ChosenTo 0 readDomain 1 64 s from mask domains at m i
 
 abbrev μ-loop : tie.MeasureT-loop
 μ-loop s from mask domains₀ at₀ m₀ i₀ domains at m i = 64 - i
 
 loop-holds : tie.Need-loop-holds Inv-loop μ-loop
-loop-holds c = (omega arith, refl, omega arith, search needs)
+loop-holds c = chosen-start 0 readDomain 1 64 _ _ _ _ (search needs)
 
 read-domain-if-requires : tie.Need-read-domain-if-requires Inv-loop μ-loop
-read-domain-if-requires c κs = search needs
-
-array-write-domains : tie.Need-array-write-domains Inv-loop μ-loop
-array-write-domains c = search needs
-
-if-set-requires : tie.Need-if-set-requires Inv-loop μ-loop
-if-set-requires c κs = search needs
+read-domain-if-requires c κs = (omega (arith, c .before .before .before .pre .0, c .before .loop .inv .some, c .before .loop .inv .near), c .before .before .before .pre .1)
 
 add-at : tie.Need-add-at Inv-loop μ-loop
-add-at c = search needs
-
-add-i : tie.Need-add-i Inv-loop μ-loop
-add-i c = search needs
-
-loop-less : tie.Need-loop-less Inv-loop μ-loop
-loop-less c = search needs
+add-at c = omega (arith, c .before .before .before .before .before .pre .0, c .before .before .before .loop .inv .some, c .before .before .before .loop .inv .near, c .if-set .ensures .1)
 
 loop-again : tie.Need-loop-again Inv-loop μ-loop
-loop-again c =
-    let a = c .before .before .before .before .before .args in
-    let l = c .before .before .before .loop in (
-      omega arith,
-      chosen-turn 0 readDomain 1 64 (l .i) (l .at) (l .m) (c .before .read-domain-if .result) (c .if-set .result) (a .s .now) (l .domains) _ (omega arith) (omega arith) (c .before .read-domain-if .ensures) (c .if-set .ensures .0) (l .inv .1),
-      omega (arith, c .if-set .ensures .1),
-      simp length-set (l .inv .3),
-    )
+loop-again c = chosen-more 0 readDomain 1 64 (c .before .before .before .loop .inv) (c .before .before .loop-test .taken) _ _ (c .before .read-domain-if .ensures) (c .if-set .ensures)
 
 returns : tie.Need-returns Inv-loop μ-loop
-returns c =
-    let l = c .before .loop in
-    let e : 64 - l .i ≡ 0 = omega arith in
-    sym (fill-done (l .domains) (l .i) (omega arith)) ∙ (rw e at (l .inv .1))
+returns c = chosen-all 0 readDomain 1 64 (c .before .loop .inv) (c .loop-test .left)
 
 pub read-domains-spec : {M : Type 1} → statement M
 read-domains-spec =
@@ -64,10 +36,8 @@ read-domains-spec =
     μ-loop
     loop-holds
     read-domain-if-requires
-    array-write-domains
-    if-set-requires
+    (λ c. search needs) (λ c κs. search needs)
     add-at
-    add-i
-    loop-less
+    (λ c. search needs) (λ c. search needs)
     loop-again
     returns)

@@ -8,12 +8,12 @@ use borrow.Author.Needs.{needs}
 use Rattle.image.proofs.loader.read_role_if.Statement.{statement}
 use Rattle.image.proofs.loader.read_role_if.Tie as tie
 
-no-role-requires : tie.Need-no-role-requires
-no-role-requires c κs = search needs
+blank-role-requires : tie.Need-blank-role-requires
+blank-role-requires c κs = search needs
 
 returns : tie.Need-returns
 returns c =
-    c .no-role .ensures ∙ sym (item-none blankRole readRole (c .before .before .before .args .bit) (drop (c .before .before .before .args .at) (c .before .before .before .args .s .now)) (c .before .if1 .taken))
+    c .blank-role .ensures ∙ sym (item-none blankRole readRole (c .before .before .before .args .bit) (drop (c .before .before .before .args .at) (c .before .before .before .args .s .now)) (c .before .if1 .taken))
 
 read-role-requires : tie.Need-read-role-requires
 read-role-requires c κs = search needs
@@ -23,4 +23,4 @@ returns-2 c =
     c .read-role .ensures ∙ sym (item-set blankRole readRole (c .before .before .before .args .bit) (drop (c .before .before .before .args .at) (c .before .before .before .args .s .now)) (c .before .if1 .left))
 
 pub read-role-if-spec : {M : Type 1} → statement M
-read-role-if-spec = tie.close (tie.spec no-role-requires returns read-role-requires returns-2)
+read-role-if-spec = tie.close (tie.spec blank-role-requires returns read-role-requires returns-2)

@@ -8,12 +8,12 @@ use borrow.Author.Needs.{needs}
 use Rattle.image.proofs.loader.read_session_if.Statement.{statement}
 use Rattle.image.proofs.loader.read_session_if.Tie as tie
 
-no-session-requires : tie.Need-no-session-requires
-no-session-requires c κs = search needs
+blank-session-requires : tie.Need-blank-session-requires
+blank-session-requires c κs = search needs
 
 returns : tie.Need-returns
 returns c =
-    c .no-session .ensures ∙ sym (item-none blankSession readSession (c .before .before .before .args .bit) (drop (c .before .before .before .args .at) (c .before .before .before .args .s .now)) (c .before .if1 .taken))
+    c .blank-session .ensures ∙ sym (item-none blankSession readSession (c .before .before .before .args .bit) (drop (c .before .before .before .args .at) (c .before .before .before .args .s .now)) (c .before .if1 .taken))
 
 read-session-requires : tie.Need-read-session-requires
 read-session-requires c κs = search needs
@@ -24,4 +24,4 @@ returns-2 c =
 
 pub read-session-if-spec : {M : Type 1} → statement M
 read-session-if-spec =
-    tie.close (tie.spec no-session-requires returns read-session-requires returns-2)
+    tie.close (tie.spec blank-session-requires returns read-session-requires returns-2)
