@@ -28,8 +28,7 @@ pub apply-all-spec : {M : Type 1} → statement M
 apply-all-spec =
     tie.close
     (tie.spec
-    (λ c κs. search needs)
-    (λ c κs. search needs)
+    (λ c κs. search needs) (λ c κs. search needs)
     apply-formed-requires
     (λ c κs. search needs)
     returns

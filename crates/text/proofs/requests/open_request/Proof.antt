@@ -51,14 +51,11 @@ pub open-request-spec : {M : Type 1} → statement M
 open-request-spec =
     tie.close
     (tie.spec
-    (λ c κs. search needs)
-    (λ c. search needs)
-    (λ c. search needs)
+    (λ c κs. search needs) (λ c. search needs) (λ c. search needs)
     returns
     fits
     fits
-    (λ c. search needs)
-    (λ c κs. search needs)
+    (λ c. search needs) (λ c κs. search needs)
     returns-2
     (λ c κs. search needs)
     returns-3)
