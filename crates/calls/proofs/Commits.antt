@@ -1,6 +1,5 @@
 -- Every request over the elements that it names, put back, is the call of the model.
-use mathlib.Core.Path.{_≡_, refl, sym, ap, _∙_, subst}
-use mathlib.Core.Bool.{Bool, true, false}
+use mathlib.Core.Path.{_≡_, refl, ap, _∙_}
 use mathlib.Core.List.{List}
 use Prim.Native.Nat.{ℕ, _%_}
 use lib.Dec.{T}
@@ -16,7 +15,7 @@ use Rattle.model.specs.Rules.{wellFormed}
 use Rattle.model.specs.Calls.{settled}
 use Rattle.model.specs.Requests.{callOf}
 use Rattle.slots.specs.declared.Decision.{Decision}
-use Rattle.slots.specs.Slots.{Places, look, Ruled, ruledOf, lifted}
+use Rattle.slots.specs.Slots.{Places, look, ruledOf, lifted}
 use Rattle.slots.proofs.TermLaws.{Column}
 use Rattle.places.specs.declared.Names.{Names}
 use Rattle.places.specs.Requests.{namesOf, placesIn, capabilityPlace, rolePlace, parentPlace, roleHeld, capabilityHeld, roleIn, capabilityIn}

@@ -1,21 +1,12 @@
 -- A register read section by section, each from the place after the one before it, is `decode` of the bytes.
 use mathlib.Core.Path.{_≡_, refl, sym, ap, _∙_}
-use mathlib.Core.List.{List, [], _∷_, _++_}
-use Prim.Native.Nat.{ℕ, zero, suc, _+_, _-_, _*_, min}
-use native.Mathlib.Nat.{add-assoc}
-use lib.ListN.{length, drop, replicate}
+use mathlib.Core.List.{List}
+use Prim.Native.Nat.{ℕ, zero, suc, _+_, _-_}
+use lib.ListN.{drop}
 use lib.Seq.{drop-drop}
-use Rattle.masks.specs.Bytes.{numberOf, maskOf, firstBytes}
-use Rattle.model.specs.declared.Origin.{Origin}
 use Rattle.model.specs.declared.Origin.the-variants.{Capability as ofCapability}
-use Rattle.model.specs.declared.Role.{Role}
-use Rattle.model.specs.declared.Capability.{Capability}
-use Rattle.model.specs.declared.Session.{Session}
-use Rattle.model.specs.declared.Register.{Register}
-use Rattle.model.specs.State.{blankRole, blankCapability, blankSession}
-use Rattle.model.specs.Fields.{originOf, readRole, readSession}
-use Rattle.model.specs.Image.{itemOr, readChosen, chosenLength, readCapabilities, afterCapabilities, afterChosen, mapAt, decode}
-use Rattle.image.proofs.RoundTrip.{readDomain, registerOf, fromParts, decode-parts, same-register}
+use Rattle.model.specs.Fields.{originOf}
+use Rattle.model.specs.Image.{itemOr, chosenLength, afterChosen, mapAt, decode}
 
 pub origin-capability : (k n : ℕ) → (k ≡ 0 → ⊥) → originOf k n ≡ ofCapability n
 origin-capability zero n h = absurd (h refl)

@@ -1,10 +1,8 @@
 -- Records read from bytes and written again are the bytes that were read, where they are exact.
 use mathlib.Core.Path.{_≡_, refl, sym, ap, _∙_}
-use mathlib.Core.Bool.{Bool, true, false, _&&_}
 use mathlib.Core.List.{List, [], _∷_, _++_}
 use Prim.Native.Nat.{ℕ, zero, suc, _+_, _*_, _/_, _%_, _^_, _≤_, _<_}
-use native.Mathlib.Nat.{pow-suc, zero-mul, one-mul, zero-add, suc-add, add-assoc, div-div-eq-div-mul}
-use native.Mathlib.Numerals.{add-one}
+use native.Mathlib.Nat.{pow-suc, zero-mul, one-mul, zero-add, suc-add, div-div-eq-div-mul}
 use native.Mathlib.Omega.{arith}
 use lib.Dec.{T, eqb, ltb, ltb→lt, eqb→eq}
 use lib.ListN.{length, drop, getD}
@@ -25,36 +23,6 @@ pub capabilities-at : (n : ℕ) (t : List ℕ) → afterCapabilities n t ≡ dro
 capabilities-at zero t = refl
 capabilities-at (suc n) t =
     capabilities-at n (drop (capabilityLength t) t) ∙ drop-drop (capabilitiesLength n (drop (capabilityLength t) t)) (capabilityLength t) t
-
-length-suc : (n : ℕ) (t : List ℕ) → capabilitiesLength (suc n) t ≡ capabilitiesLength n t + capabilityLength (drop (capabilitiesLength n t) t)
-length-suc zero t = omega arith
-length-suc (suc n) t =
-    let u : List ℕ = drop (capabilityLength t) t in
-    ap (λ (x : ℕ). capabilityLength t + x) (length-suc n u)
-    ∙ sym (add-assoc (capabilityLength t) (capabilitiesLength n u) (capabilityLength (drop (capabilitiesLength n u) u)))
-    ∙ ap (λ (l : List ℕ). capabilityLength t + capabilitiesLength n u + capabilityLength l) (drop-drop (capabilitiesLength n u) (capabilityLength t) t)
-
-pub capabilities-length-next : (n : ℕ) (t : List ℕ) → capabilitiesLength (n + 1) t ≡ capabilitiesLength n t + capabilityLength (drop (capabilitiesLength n t) t)
-capabilities-length-next n t = ap (λ (k : ℕ). capabilitiesLength k t) (add-one n) ∙ length-suc n t
-
-and-true : (a : Bool) → (a && true) ≡ a
-and-true true = refl
-and-true false = refl
-
-and-assoc : (a b c : Bool) → (a && (b && c)) ≡ ((a && b) && c)
-and-assoc true b c = refl
-and-assoc false b c = refl
-
-exact-suc : (n : ℕ) (t : List ℕ) → exactCapabilities (suc n) t ≡ (exactCapabilities n t && exactCapability (drop (capabilitiesLength n t) t))
-exact-suc zero t = and-true (exactCapability t)
-exact-suc (suc n) t =
-    let u : List ℕ = drop (capabilityLength t) t in
-    ap (λ (b : Bool). exactCapability t && b) (exact-suc n u)
-    ∙ and-assoc (exactCapability t) (exactCapabilities n u) (exactCapability (drop (capabilitiesLength n u) u))
-    ∙ ap (λ (l : List ℕ). exactCapability t && exactCapabilities n u && exactCapability l) (drop-drop (capabilitiesLength n u) (capabilityLength t) t)
-
-pub capabilities-exact-next : (n : ℕ) (t : List ℕ) → exactCapabilities (n + 1) t ≡ (exactCapabilities n t && exactCapability (drop (capabilitiesLength n t) t))
-capabilities-exact-next n t = ap (λ (k : ℕ). exactCapabilities k t) (add-one n) ∙ exact-suc n t
 
 -- ---- the first bytes
 

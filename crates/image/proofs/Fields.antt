@@ -6,7 +6,6 @@ use native.Mathlib.Nat.{pow-suc, zero-mul, one-mul}
 use native.Mathlib.Omega.{arith}
 use lib.ListN.{length, drop, length-append}
 use lib.Seq.{drop-at}
-use Rattle.masks.specs.Bytes.{bytesOf, mapBytes}
 use Rattle.model.specs.Fields.{Coding, plain, bitmap, mark, width, written, readField, writeAll, readAll, isSet, fieldMap, writeSet, writePresent, readSet, readPresent, presentLength}
 use Rattle.image.specs.Codes.{Fitting}
 use Rattle.image.proofs.Numbers.{length-bytes, length-map, number-back, map-back}

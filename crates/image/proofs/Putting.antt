@@ -1,5 +1,5 @@
 -- Loops that write items one after another: one law for what such a loop owes, over the function that writes one item.
-use mathlib.Core.Path.{_≡_, refl, ap, _∙_}
+use mathlib.Core.Path.{_≡_, refl}
 use mathlib.Core.List.{List, [], _∷_, _++_}
 use Prim.Native.Nat.{ℕ, _+_, _-_, _/_, _%_, _≤_, _<_}
 use native.Mathlib.Numerals.{add-one}
@@ -11,7 +11,7 @@ use Rattle.masks.specs.Bytes.{front}
 use Rattle.model.specs.Fields.{Coding, written, writeAll, writeSet, writePresent}
 use Rattle.model.specs.Image.{chosen, writeChosen}
 use Rattle.image.specs.Codes.{codingOf, codings}
-use Rattle.image.proofs.Sections.{chosen-step, chosen-done, chosen-none}
+use Rattle.image.proofs.Sections.{chosen-step, chosen-done}
 use Rattle.image.proofs.Writing.{Writing, writing-start, writing-fits, writing-within, writing-step, writing-done}
 
 -- the n bytes xs are written at the front of the part from `at` on, which is `last` after it
@@ -114,6 +114,3 @@ module _ {A : Type 0} {write : A → List ℕ} {k mask : ℕ} {l : List A} {s₀
 
   pub items-passed : k ≤ i → (at ≡ length (writeChosen write mask l)) × (s ≡ front (writeChosen write mask l) s₀)
   items-passed h = items-done (chosen-done write m l i (omega arith))
-
-  pub items-none : m ≡ 0 → (at ≡ length (writeChosen write mask l)) × (s ≡ front (writeChosen write mask l) s₀)
-  items-none e = items-done (ap (λ (b : ℕ). writeChosen write b (drop i l)) e ∙ chosen-none write (drop i l))

@@ -2,7 +2,7 @@
 use mathlib.Core.Path.{_≡_, refl, sym, ap, _∙_}
 use mathlib.Core.Bool.{Bool, true, false}
 use mathlib.Core.List.{List, [], _∷_, _++_, append-assoc}
-use Prim.Native.Nat.{ℕ, zero, suc, _+_, _-_, _*_, _^_, _≤_, _<_}
+use Prim.Native.Nat.{ℕ, suc, _+_, _-_, _*_, _^_, _≤_, _<_}
 use native.Mathlib.Numerals.{add-one}
 use native.Mathlib.Omega.{arith}
 use lib.Dec.{T, eqb}
@@ -15,12 +15,12 @@ use Rattle.model.specs.declared.Origin.the-variants.{Role as ofRole, Capability
 use Rattle.model.specs.declared.Role.{Role}
 use Rattle.model.specs.declared.Capability.{Capability}
 use Rattle.model.specs.declared.Session.{Session}
-use Rattle.model.specs.State.{blankRole, blankCapability, blankSession}
+use Rattle.model.specs.State.{blankCapability}
 use Rattle.model.specs.Invariant.{OriginInRange, RoleRules, CapabilityRanges, SessionRules}
-use Rattle.model.specs.Fields.{Coding, kindOf, indexOf, originOf, bit, mark, readAll, writeAll, fieldMap, readPresent, writePresent, presentLength, roleCodings, roleFields, writeRole, roleOf, readRole, sessionCodings, sessionFields, writeSession, sessionOf, readSession, headCodings, headFields, capabilityCodings, capabilityFields, writeCapability, capabilityOf, readHead, readCapability, capabilityLength}
+use Rattle.model.specs.Fields.{kindOf, indexOf, originOf, bit, readAll, writeAll, fieldMap, readPresent, writePresent, roleCodings, roleFields, writeRole, roleOf, readRole, sessionCodings, sessionFields, writeSession, sessionOf, readSession, headCodings, headFields, capabilityCodings, capabilityFields, writeCapability, capabilityOf, readHead, readCapability, capabilityLength}
 use Rattle.model.specs.Image.{writeCapabilities, readCapabilities, afterCapabilities}
 use Rattle.image.specs.Codes.{Fitting}
-use Rattle.image.proofs.Numbers.{length-bytes, number-back}
+use Rattle.image.proofs.Numbers.{number-back}
 use Rattle.image.proofs.Fields.{Fits, Pairs, total, all-back, present-back, present-length, present-small, map-small}
 use Rattle.image.proofs.Sections.{Good}
 

@@ -148,10 +148,6 @@ module _ {A : Type 0} (write : A → List ℕ) where
   pub chosen-done : (m : ℕ) (l : List A) (i : ℕ) → length l ≤ i → writeChosen write m (drop i l) ≡ []
   chosen-done m l i h = ap (writeChosen write m) (drop-of-length-le l h)
 
-  pub chosen-none : (l : List A) → writeChosen write 0 l ≡ []
-  chosen-none [] = refl
-  chosen-none (a ∷ l) = chosen-none l
-
 pub chosen-set : (b : ℕ) (s : List ℕ) → (b ≡ 0 → ⊥) → chosen b s ≡ s
 chosen-set zero s h = absurd (h refl)
 chosen-set (suc b) s h = refl

@@ -1,6 +1,6 @@
 -- An image section by section, and its length.
 use mathlib.Core.Path.{_≡_, refl, sym, ap, _∙_}
-use mathlib.Core.List.{List, [], _∷_, _++_, append-assoc}
+use mathlib.Core.List.{List, _++_, append-assoc}
 use Prim.Native.Nat.{ℕ, zero, suc, _+_, _*_, _/_, _%_, _≤_}
 use native.Mathlib.Nat.{one-mul, suc-mul, mul-le-mul-right}
 use native.Mathlib.Omega.{arith}
@@ -78,12 +78,3 @@ chosen-most w m zero = omega arith
 chosen-most w m (suc k) =
     let b : m % 2 ≤ 1 = omega arith in
     omega (arith, rw one-mul at (mul-le-mul-right w b), chosen-most w (m / 2) k, suc-mul k w)
-
-most : (x w m k b : ℕ) → x ≡ chosenLength w m k → k * w ≡ b → x ≤ b
-most x w m k b e f = rw (e, ← f) (chosen-most w m k)
-
-sum-most : {u f c s : ℕ} → u ≤ 64 → f ≤ 640 → c ≤ 12288 → s ≤ 384 → 26 + u + f + c + s ≤ 13402
-sum-most hu hf hc hs = omega arith
-
-pub size-most : (u f c s m n l : ℕ) → u ≡ chosenLength 1 m 64 → f ≡ chosenLength 20 n 32 → c ≤ 12288 → s ≡ chosenLength 6 l 64 → 26 + u + f + c + s ≤ 13402
-size-most u f c s m n l eu ef hc es = sum-most (most u 1 m 64 64 eu refl) (most f 20 n 32 640 ef refl) hc (most s 6 l 64 384 es refl)

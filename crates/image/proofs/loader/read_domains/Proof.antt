@@ -31,13 +31,4 @@ returns c = chosen-all 0 readDomain 1 64 (c .before .loop .inv) (c .loop-test .l
 pub read-domains-spec : {M : Type 1} → statement M
 read-domains-spec =
     tie.close
-    (tie.spec
-    Inv-loop
-    μ-loop
-    loop-holds
-    read-domain-if-requires
-    (λ c. search needs) (λ c κs. search needs)
-    add-at
-    (λ c. search needs) (λ c. search needs)
-    loop-again
-    returns)
+    (tie.spec Inv-loop μ-loop loop-holds read-domain-if-requires (λ c. search needs) (λ c κs. search needs) add-at (λ c. search needs) (λ c. search needs) loop-again returns)

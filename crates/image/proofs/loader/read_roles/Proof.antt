@@ -32,15 +32,4 @@ returns c = chosen-all blankRole readRole 20 32 (c .before .loop .inv) (c .loop-
 pub read-roles-spec : {M : Type 1} → statement M
 read-roles-spec =
     tie.close
-    (tie.spec
-    Inv-loop
-    μ-loop
-    (λ c κs. search needs)
-    loop-holds
-    read-role-if-requires
-    (λ c. search needs) (λ c. search needs)
-    (λ c κs. search needs)
-    add-at
-    (λ c. search needs) (λ c. search needs)
-    loop-again
-    returns)
+    (tie.spec Inv-loop μ-loop (λ c κs. search needs) loop-holds read-role-if-requires (λ c. search needs) (λ c. search needs) (λ c κs. search needs) add-at (λ c. search needs) (λ c. search needs) loop-again returns)

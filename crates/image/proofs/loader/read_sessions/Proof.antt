@@ -32,15 +32,4 @@ returns c = chosen-all blankSession readSession 6 64 (c .before .loop .inv) (c .
 pub read-sessions-spec : {M : Type 1} → statement M
 read-sessions-spec =
     tie.close
-    (tie.spec
-    Inv-loop
-    μ-loop
-    (λ c κs. search needs)
-    loop-holds
-    read-session-if-requires
-    (λ c. search needs) (λ c. search needs)
-    (λ c κs. search needs)
-    add-at
-    (λ c. search needs) (λ c. search needs)
-    loop-again
-    returns)
+    (tie.spec Inv-loop μ-loop (λ c κs. search needs) loop-holds read-session-if-requires (λ c. search needs) (λ c. search needs) (λ c κs. search needs) add-at (λ c. search needs) (λ c. search needs) loop-again returns)
