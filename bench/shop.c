@@ -1,12 +1,12 @@
 /*
- * The register as SQLite tables, in memory, with prepared statements: check, create and revoke as a payroll shop would
- * write them. A negative answer is a refusal of document 01.
+ * The register as SQLite tables, in memory, with prepared statements: check, open, create and revoke as a payroll shop
+ * would write them. A negative answer is a refusal of document 01.
  */
 #include <sqlite3.h>
 #include <stdint.h>
 #include <stdlib.h>
 
-enum { BEGIN, COMMIT, CHECK, ORIGIN, INSERT, COUNT, NAMED, ENTITLED, MARK, STATEMENTS };
+enum { BEGIN, COMMIT, CHECK, ADMIT, ENTER, USE, ORIGIN, INSERT, COUNT, NAMED, ENTITLED, MARK, STATEMENTS };
 
 struct shop {
     sqlite3 *base;
@@ -25,6 +25,18 @@ static const char *const texts[STATEMENTS] = {
         "   EXISTS (SELECT 1 FROM lent l JOIN role r ON r.id = l.role WHERE l.pass = p.id AND r.permissions >> ?2 & 1))"
         "   FROM pass p JOIN holder h ON h.pass = p.id AND h.user = s.user WHERE p.id = s.pass AND NOT p.revoked)"
         " END FROM session s WHERE s.id = ?1",
+    /* session, user, pass, hour, place, device: the first refusal that applies, or 0 */
+    [ADMIT] =
+        "SELECT CASE"
+        " WHEN EXISTS (SELECT 1 FROM session WHERE id = ?1) THEN 4"
+        " WHEN NOT EXISTS (SELECT 1 FROM holder WHERE pass = p.id AND user = ?2) THEN 6"
+        " WHEN p.revoked THEN 7"
+        " WHEN (SELECT tick FROM clock) NOT BETWEEN p.first AND p.last THEN 8"
+        " WHEN NOT (p.hours >> ?4 & p.places >> ?5 & p.devices >> ?6 & 1) THEN 9"
+        " WHEN p.uses >= p.use_limit THEN 10"
+        " ELSE 0 END FROM pass p WHERE p.id = ?3",
+    [ENTER] = "INSERT INTO session VALUES (?1, ?2, NULL, ?3, ?4, ?5, ?6)",
+    [USE] = "UPDATE pass SET uses = uses + 1 WHERE id = ?3",
     /* user, origin, hour, place, device, then the new pass's terms: the first refusal that applies, or 0 */
     [ORIGIN] =
         "SELECT CASE"
@@ -85,6 +97,19 @@ static int64_t number(struct shop *shop, int at, const int64_t *arguments) {
 /* session, permission */
 int64_t shop_check(struct shop *shop, const int64_t *arguments) {
     return number(shop, CHECK, arguments);
+}
+
+/* session, user, pass, hour, place, device */
+int64_t shop_enter(struct shop *shop, const int64_t *arguments) {
+    number(shop, BEGIN, NULL);
+    int64_t refusal = number(shop, ADMIT, arguments);
+    int64_t answer = refusal < 0 ? refusal : -refusal;
+    if (refusal == 0) {
+        number(shop, ENTER, arguments);
+        number(shop, USE, arguments);
+    }
+    number(shop, COMMIT, NULL);
+    return answer;
 }
 
 /* user, origin (a pass), hour, place, device, first, last, three limits, three masks */

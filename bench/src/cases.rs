@@ -26,7 +26,7 @@ impl Case {
     }
 }
 
-/// A read, a small change, a creation and the revocation of both trees.
+/// A read, two small changes, a creation and the revocation of both trees.
 pub fn calls() -> Vec<Case> {
     let mut cases = vec![
         Case::new("fresh: check (refused, 3)", Register::fresh(), "check 0 4"),
@@ -40,6 +40,7 @@ pub fn calls() -> Vec<Case> {
 fn calls_on(name: &str, size: Size) -> Vec<Case> {
     let mut cases = vec![
         check(name, size),
+        open(name, size),
         Case::new(&format!("{name}: hand"), grown(size, Shape::Deep), "hand 3 2 100"),
     ];
     cases.extend(changes(name, size));
@@ -49,6 +50,14 @@ fn calls_on(name: &str, size: Size) -> Vec<Case> {
 fn check(name: &str, size: Size) -> Case {
     let line = format!("check {} 4", size.sessions - 1);
     Case::new(&format!("{name}: check"), grown(size, Shape::Deep), &line)
+}
+
+/// The last session, opened on the pass of its number.
+fn open(name: &str, size: Size) -> Case {
+    let last = size.sessions - 1;
+    let before = Size { sessions: last, ..size };
+    let line = format!("open {last} 3 pass {} 9 0 0", last % size.passes);
+    Case::new(&format!("{name}: open"), grown(before, Shape::Deep), &line)
 }
 
 /// The creation of the last pass, and the revocation of all.
@@ -84,10 +93,10 @@ pub fn growth() -> Vec<Vec<Case>> {
     let at = |passes: &usize| {
         let size = with_passes(*passes);
         let [create, deep, wide] = changes("growth", size);
-        [check("growth", size), create, deep, wide]
+        [check("growth", size), open("growth", size), create, deep, wide]
     };
     let mut rows: Vec<Vec<Case>> = Vec::new();
-    rows.resize_with(4, Vec::new);
+    rows.resize_with(5, Vec::new);
     for cases in GROWTH.iter().map(at) {
         for (row, case) in rows.iter_mut().zip(cases) {
             row.push(case);

@@ -3,7 +3,7 @@
 
 use crate::cases::Case;
 use crate::contender::Contender;
-use reference::{parse, Capability, Creation, Named, Origin, Register, Request};
+use reference::{parse, Capability, Creation, Named, Opening, Origin, Register, Request};
 use std::ffi::{c_char, c_int, CString};
 use std::fmt::Write;
 
@@ -36,6 +36,7 @@ extern "C" {
     fn shop_open(text: *const c_char) -> *mut Base;
     fn shop_run(shop: *mut Base, text: *const c_char) -> c_int;
     fn shop_check(shop: *mut Base, arguments: *const i64) -> i64;
+    fn shop_enter(shop: *mut Base, arguments: *const i64) -> i64;
     fn shop_create(shop: *mut Base, arguments: *const i64) -> i64;
     fn shop_revoke(shop: *mut Base, arguments: *const i64) -> i64;
 }
@@ -49,7 +50,7 @@ pub struct Shop {
 }
 
 impl Shop {
-    /// None if the line's call is not among the three.
+    /// None if the line's call is not among the four.
     pub fn new(case: &Case) -> Option<Shop> {
         let (function, arguments, undo) = call(&parse(case.line.strip_suffix(b"\n")?)?)?;
         let text = CString::new(rows(&case.register)).expect("no zero byte");
@@ -81,6 +82,15 @@ fn call(request: &Request) -> Option<(Function, Vec<i64>, String)> {
     match *request {
         Request::Check { session, permission } => {
             Some((shop_check, vec![session as i64, permission as i64], String::new()))
+        }
+        Request::Open(Opening { session, on: Named::Capability(pass), .. }) => {
+            let mut copy = *request;
+            let arguments = copy.arguments_mut().into_iter().map(|&mut number| number as i64);
+            let undo = format!(
+                "DELETE FROM session WHERE id = {session};
+                 UPDATE pass SET uses = uses - 1 WHERE id = {pass}"
+            );
+            Some((shop_enter, arguments.collect(), undo))
         }
         Request::Create(Creation { origin: Named::Capability(origin), .. }) => {
             let mut copy = *request;
