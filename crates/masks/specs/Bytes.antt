@@ -1,7 +1,9 @@
--- Numbers, maps and parts of lists as bytes.
+-- Numbers, maps, texts and parts of lists as bytes.
 use mathlib.Core.Bool.{Bool, true, false, cond, _&&_}
 use mathlib.Core.List.{List, [], _∷_, _++_}
 use Prim.Native.Nat.{ℕ, zero, suc, _+_, _*_, _/_, _%_, _^_}
+use Prim.Native.Char.{code}
+use Prim.Native.String.{String, [] as []ᵗ, _∷_ as _∷ᵗ_}
 use lib.Dec.{eqb}
 use lib.ListN.{length, drop}
 
@@ -28,6 +30,11 @@ mapBytes (suc k) n = n % 256 ∷ mapBytes k (n / 256)
 abbrev pub maskOf : List ℕ → ℕ
 maskOf [] = 0
 maskOf (b ∷ s) = maskOf s * 256 + b
+
+-- a text as bytes: the code of each of its characters, which is one byte where the text is ASCII
+abbrev pub bytes : String → List ℕ
+bytes []ᵗ = []
+bytes (c ∷ᵗ s) = code c ∷ bytes s
 
 -- s with xs in the place of its first bytes; the bytes after them are as they were
 abbrev pub front : List ℕ → List ℕ → List ℕ

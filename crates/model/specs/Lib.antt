@@ -14,8 +14,6 @@ pub mod Calls
 pub mod Sweeps
 pub mod Fields
 pub mod Image
-pub mod Letters
-pub mod Words
 pub mod Lines
 pub mod Journal
 pub mod Entry

@@ -4,16 +4,16 @@ use mathlib.Core.Bool.{Bool, true, false, cond, not, _&&_}
 use mathlib.Core.List.{List, [], _∷_, _++_}
 use mathlib.Core.Option.{Option, none, some}
 use Prim.Native.Nat.{ℕ, zero, suc, _+_, _-_, _*_, _/_, _%_, _^_}
+use Prim.Native.String.{String}
 use lib.Dec.{eqb, leb, ltb}
 use lib.ListN.{getD, length}
-use Rattle.masks.specs.Bytes.{sameBytes, split}
+use Rattle.masks.specs.Bytes.{bytes, sameBytes, split}
 use Rattle.model.specs.declared.Origin.{Origin}
 use Rattle.model.specs.declared.Origin.the-variants.{Role as ofRole, Capability as ofCapability}
 use Rattle.model.specs.Rules.{bits}
 use Rattle.model.specs.Rulings.{Outcome, value, refused}
 use Rattle.model.specs.Revocation.{Change, raise, lower}
 use Rattle.model.specs.Calls.{Call, enrol, found, grant, withdraw, appoint, dismiss, clock, create, allow, lend, hand, opening, check, amend, revoke, close, same}
-use Rattle.model.specs.Words.{enrolWord, foundWord, grantWord, withdrawWord, appointWord, dismissWord, clockWord, createWord, allowWord, lendWord, handWord, openWord, checkWord, amendWord, revokeWord, closeWord, sameWord, roleWord, passWord, okWord, noWord}
 
 -- go on with what was read, if anything was
 abbrev pub andThen : {A B : Type 0} → Option A → (A → Option B) → Option B
@@ -68,7 +68,7 @@ ofNumbers k build args = andThen (numbers k args) (λ v. some (build v))
 
 -- `role` or `pass`, and the number after it
 abbrev pub originIn : List ℕ → ℕ → Option Origin
-originIn w n = cond (sameBytes w roleWord) (some (ofRole n)) (cond (sameBytes w passWord) (some (ofCapability n)) none)
+originIn w n = cond (sameBytes w (bytes "role")) (some (ofRole n)) (cond (sameBytes w (bytes "pass")) (some (ofCapability n)) none)
 
 -- "create user, role or pass, its number, hour place device, first last, use creation hop limits, hours places devices"
 abbrev pub createIn : List (List ℕ) → Option Call
@@ -107,29 +107,29 @@ pub record Form : Type 0 where
   pub word : List ℕ
   pub read : List (List ℕ) → Option Call
 
-abbrev form : List ℕ → (List (List ℕ) → Option Call) → Form
-form w f = record { word = w; read = f }
+abbrev form : String → (List (List ℕ) → Option Call) → Form
+form w f = record { word = bytes w; read = f }
 
 -- a call's word with the reader of its arguments; "save and load are no journal words"
 unfoldable pub forms : List Form
 forms =
-    form enrolWord (ofNumbers 2 (λ v. enrol (nth v 0) (nth v 1)))
-    ∷ form foundWord (ofNumbers 5 (λ v. found (nth v 0) (nth v 1) (nth v 2) (nth v 3) (nth v 4)))
-    ∷ form grantWord (ofNumbers 2 (λ v. grant (nth v 0) (nth v 1)))
-    ∷ form withdrawWord (ofNumbers 2 (λ v. withdraw (nth v 0) (nth v 1)))
-    ∷ form appointWord (ofNumbers 2 (λ v. appoint (nth v 0) (nth v 1)))
-    ∷ form dismissWord (ofNumbers 2 (λ v. dismiss (nth v 0) (nth v 1)))
-    ∷ form clockWord (ofNumbers 1 (λ v. clock (nth v 0)))
-    ∷ form createWord createIn
-    ∷ form allowWord (ofNumbers 3 (λ v. allow (nth v 0) (nth v 1) (nth v 2)))
-    ∷ form lendWord (ofNumbers 3 (λ v. lend (nth v 0) (nth v 1) (nth v 2)))
-    ∷ form handWord (ofNumbers 3 (λ v. hand (nth v 0) (nth v 1) (nth v 2)))
-    ∷ form openWord openIn
-    ∷ form checkWord (ofNumbers 2 (λ v. check (nth v 0) (nth v 1)))
-    ∷ form amendWord amendIn
-    ∷ form revokeWord (ofNumbers 2 (λ v. revoke (nth v 0) (nth v 1)))
-    ∷ form closeWord (ofNumbers 1 (λ v. close (nth v 0)))
-    ∷ form sameWord (ofNumbers 2 (λ v. same (nth v 0) (nth v 1)))
+    form "enrol" (ofNumbers 2 (λ v. enrol (nth v 0) (nth v 1)))
+    ∷ form "found" (ofNumbers 5 (λ v. found (nth v 0) (nth v 1) (nth v 2) (nth v 3) (nth v 4)))
+    ∷ form "grant" (ofNumbers 2 (λ v. grant (nth v 0) (nth v 1)))
+    ∷ form "withdraw" (ofNumbers 2 (λ v. withdraw (nth v 0) (nth v 1)))
+    ∷ form "appoint" (ofNumbers 2 (λ v. appoint (nth v 0) (nth v 1)))
+    ∷ form "dismiss" (ofNumbers 2 (λ v. dismiss (nth v 0) (nth v 1)))
+    ∷ form "clock" (ofNumbers 1 (λ v. clock (nth v 0)))
+    ∷ form "create" createIn
+    ∷ form "allow" (ofNumbers 3 (λ v. allow (nth v 0) (nth v 1) (nth v 2)))
+    ∷ form "lend" (ofNumbers 3 (λ v. lend (nth v 0) (nth v 1) (nth v 2)))
+    ∷ form "hand" (ofNumbers 3 (λ v. hand (nth v 0) (nth v 1) (nth v 2)))
+    ∷ form "open" openIn
+    ∷ form "check" (ofNumbers 2 (λ v. check (nth v 0) (nth v 1)))
+    ∷ form "amend" amendIn
+    ∷ form "revoke" (ofNumbers 2 (λ v. revoke (nth v 0) (nth v 1)))
+    ∷ form "close" (ofNumbers 1 (λ v. close (nth v 0)))
+    ∷ form "same" (ofNumbers 2 (λ v. same (nth v 0) (nth v 1)))
     ∷ []
 
 -- "Request words are compared byte by byte."
@@ -167,5 +167,5 @@ unfoldable pub answerLine : List ℕ → ℕ → List ℕ
 answerLine w n = w ++ ((32 ∷ []) ++ (decimal n ++ (10 ∷ [])))
 
 abbrev pub printed : Outcome → List ℕ
-printed (value v) = answerLine okWord v
-printed (refused n) = answerLine noWord n
+printed (value v) = answerLine (bytes "ok") v
+printed (refused n) = answerLine (bytes "no") n

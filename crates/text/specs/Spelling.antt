@@ -1,10 +1,11 @@
 -- The request words by the shape of their arguments, and how each is spelt.
-use mathlib.Core.List.{List, []}
+use mathlib.Core.List.{List}
 use mathlib.Core.Option.{Option}
 use Prim.Native.Nat.{ℕ}
+use Prim.Native.String.{String}
+use Rattle.masks.specs.Bytes.{bytes}
 use Rattle.model.specs.Calls.{Call, enrol, found, grant, withdraw, appoint, dismiss, clock, allow, lend, hand, check, revoke, close, same}
 use Rattle.model.specs.Lines.{nth, forms, byWord}
-use Rattle.model.specs.Words.{enrolWord, foundWord, grantWord, withdrawWord, appointWord, dismissWord, clockWord, createWord, allowWord, lendWord, handWord, openWord, checkWord, amendWord, revokeWord, closeWord, sameWord}
 use Rattle.text.specs.declared.words.One.{One}
 use Rattle.text.specs.declared.words.One.the-variants.{Clock, Close}
 use Rattle.text.specs.declared.words.Two.{Two}
@@ -16,42 +17,42 @@ use Rattle.text.specs.declared.words.Plain.the-variants.{Single, Pair, T
 use Rattle.text.specs.declared.words.Word.{Word}
 use Rattle.text.specs.declared.words.Word.the-variants.{Numbers, Create, Open, Amend, NoWord}
 
-abbrev pub oneLetters : One → List ℕ
-oneLetters Clock = clockWord
-oneLetters Close = closeWord
+abbrev pub oneLetters : One → String
+oneLetters Clock = "clock"
+oneLetters Close = "close"
 
-abbrev pub twoLetters : Two → List ℕ
-twoLetters Enrol = enrolWord
-twoLetters Grant = grantWord
-twoLetters Withdraw = withdrawWord
-twoLetters Appoint = appointWord
-twoLetters Dismiss = dismissWord
-twoLetters Check = checkWord
-twoLetters Revoke = revokeWord
-twoLetters Same = sameWord
+abbrev pub twoLetters : Two → String
+twoLetters Enrol = "enrol"
+twoLetters Grant = "grant"
+twoLetters Withdraw = "withdraw"
+twoLetters Appoint = "appoint"
+twoLetters Dismiss = "dismiss"
+twoLetters Check = "check"
+twoLetters Revoke = "revoke"
+twoLetters Same = "same"
 
-abbrev pub threeLetters : Three → List ℕ
-threeLetters Allow = allowWord
-threeLetters Lend = lendWord
-threeLetters Hand = handWord
+abbrev pub threeLetters : Three → String
+threeLetters Allow = "allow"
+threeLetters Lend = "lend"
+threeLetters Hand = "hand"
 
-abbrev pub plainLetters : Plain → List ℕ
+abbrev pub plainLetters : Plain → String
 plainLetters (Single w) = oneLetters w
 plainLetters (Pair w) = twoLetters w
 plainLetters (Triple w) = threeLetters w
-plainLetters Found = foundWord
+plainLetters Found = "found"
 
--- the bytes of a word; of no word none, which is no request
-abbrev pub letters : Word → List ℕ
+-- how a word is spelt; the empty text is no request
+abbrev pub letters : Word → String
 letters (Numbers w) = plainLetters w
-letters Create = createWord
-letters Open = openWord
-letters Amend = amendWord
-letters NoWord = []
+letters Create = "create"
+letters Open = "open"
+letters Amend = "amend"
+letters NoWord = ""
 
 -- what a word and the words after it ask for
 unfoldable pub asks : Word → List (List ℕ) → Option Call
-asks w args = byWord (letters w) args forms
+asks w args = byWord (bytes (letters w)) args forms
 
 -- ---- words that only numbers follow: how many, and what they ask for
 

@@ -3,8 +3,8 @@
 use mathlib.Core.Path.{sym, _∙_}
 use borrow.Author.Needs.{needs}
 use lib.ListN.{drop}
+use Rattle.masks.specs.Bytes.{bytes}
 use Rattle.model.specs.Lines.{forms}
-use Rattle.model.specs.Words.{clockWord, createWord, allowWord, lendWord, handWord}
 use Rattle.text.specs.Spelling.{asks}
 use Rattle.text.proofs.WordLaws.{hit}
 use Rattle.text.proofs.words.delegation_word.Statement.{statement}
@@ -12,23 +12,23 @@ use Rattle.text.proofs.words.delegation_word.Tie as tie
 
 returns : tie.Need-returns
 unfolding asks forms
-returns c = hit (c .before .before .before .before .args .w .now) clockWord (drop 6 forms) (sym (c .before .same-bytes .ensures) ∙ c .if1 .taken)
+returns c = hit (c .before .before .before .before .args .w .now) (bytes "clock") (drop 6 forms) (sym (c .before .same-bytes .ensures) ∙ c .if1 .taken)
 
 returns-2 : tie.Need-returns-2
 unfolding asks forms
-returns-2 c = hit (c .before .before .before .before .before .before .before .args .w .now) createWord (drop 6 forms) (sym (c .before .same-bytes2 .ensures) ∙ c .if2 .taken)
+returns-2 c = hit (c .before .before .before .before .before .before .before .args .w .now) (bytes "create") (drop 6 forms) (sym (c .before .same-bytes2 .ensures) ∙ c .if2 .taken)
 
 returns-3 : tie.Need-returns-3
 unfolding asks forms
-returns-3 c = hit (c .before .before .before .before .before .before .before .before .before .before .args .w .now) allowWord (drop 6 forms) (sym (c .before .same-bytes3 .ensures) ∙ c .if3 .taken)
+returns-3 c = hit (c .before .before .before .before .before .before .before .before .before .before .args .w .now) (bytes "allow") (drop 6 forms) (sym (c .before .same-bytes3 .ensures) ∙ c .if3 .taken)
 
 returns-4 : tie.Need-returns-4
 unfolding asks forms
-returns-4 c = hit (c .before .before .before .before .before .before .before .before .before .before .before .before .before .args .w .now) lendWord (drop 6 forms) (sym (c .before .same-bytes4 .ensures) ∙ c .if4 .taken)
+returns-4 c = hit (c .before .before .before .before .before .before .before .before .before .before .before .before .before .args .w .now) (bytes "lend") (drop 6 forms) (sym (c .before .same-bytes4 .ensures) ∙ c .if4 .taken)
 
 returns-5 : tie.Need-returns-5
 unfolding asks forms
-returns-5 c = hit (c .before .before .before .before .before .before .before .before .before .before .before .before .before .before .before .before .args .w .now) handWord (drop 6 forms) (sym (c .before .same-bytes5 .ensures) ∙ c .if5 .taken)
+returns-5 c = hit (c .before .before .before .before .before .before .before .before .before .before .before .before .before .before .before .before .args .w .now) (bytes "hand") (drop 6 forms) (sym (c .before .same-bytes5 .ensures) ∙ c .if5 .taken)
 
 returns-6 : tie.Need-returns-6
 unfolding asks forms

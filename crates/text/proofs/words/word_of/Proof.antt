@@ -2,8 +2,8 @@
 -- Assumes nothing.
 use mathlib.Core.Path.{sym, _∙_}
 use borrow.Author.Needs.{needs}
+use Rattle.masks.specs.Bytes.{bytes}
 use Rattle.model.specs.Lines.{forms}
-use Rattle.model.specs.Words.{enrolWord, foundWord, grantWord, withdrawWord, appointWord, dismissWord}
 use Rattle.text.specs.Spelling.{asks}
 use Rattle.text.proofs.WordLaws.{hit}
 use Rattle.text.proofs.words.word_of.Statement.{statement}
@@ -11,27 +11,27 @@ use Rattle.text.proofs.words.word_of.Tie as tie
 
 returns : tie.Need-returns
 unfolding asks forms
-returns c = hit (c .before .before .before .before .args .w .now) enrolWord forms (sym (c .before .same-bytes .ensures) ∙ c .if1 .taken)
+returns c = hit (c .before .before .before .before .args .w .now) (bytes "enrol") forms (sym (c .before .same-bytes .ensures) ∙ c .if1 .taken)
 
 returns-2 : tie.Need-returns-2
 unfolding asks forms
-returns-2 c = hit (c .before .before .before .before .before .before .before .args .w .now) foundWord forms (sym (c .before .same-bytes2 .ensures) ∙ c .if2 .taken)
+returns-2 c = hit (c .before .before .before .before .before .before .before .args .w .now) (bytes "found") forms (sym (c .before .same-bytes2 .ensures) ∙ c .if2 .taken)
 
 returns-3 : tie.Need-returns-3
 unfolding asks forms
-returns-3 c = hit (c .before .before .before .before .before .before .before .before .before .before .args .w .now) grantWord forms (sym (c .before .same-bytes3 .ensures) ∙ c .if3 .taken)
+returns-3 c = hit (c .before .before .before .before .before .before .before .before .before .before .args .w .now) (bytes "grant") forms (sym (c .before .same-bytes3 .ensures) ∙ c .if3 .taken)
 
 returns-4 : tie.Need-returns-4
 unfolding asks forms
-returns-4 c = hit (c .before .before .before .before .before .before .before .before .before .before .before .before .before .args .w .now) withdrawWord forms (sym (c .before .same-bytes4 .ensures) ∙ c .if4 .taken)
+returns-4 c = hit (c .before .before .before .before .before .before .before .before .before .before .before .before .before .args .w .now) (bytes "withdraw") forms (sym (c .before .same-bytes4 .ensures) ∙ c .if4 .taken)
 
 returns-5 : tie.Need-returns-5
 unfolding asks forms
-returns-5 c = hit (c .before .before .before .before .before .before .before .before .before .before .before .before .before .before .before .before .args .w .now) appointWord forms (sym (c .before .same-bytes5 .ensures) ∙ c .if5 .taken)
+returns-5 c = hit (c .before .before .before .before .before .before .before .before .before .before .before .before .before .before .before .before .args .w .now) (bytes "appoint") forms (sym (c .before .same-bytes5 .ensures) ∙ c .if5 .taken)
 
 returns-6 : tie.Need-returns-6
 unfolding asks forms
-returns-6 c = hit (c .before .before .before .before .before .before .before .before .before .before .before .before .before .before .before .before .before .before .before .args .w .now) dismissWord forms (sym (c .before .same-bytes6 .ensures) ∙ c .if6 .taken)
+returns-6 c = hit (c .before .before .before .before .before .before .before .before .before .before .before .before .before .before .before .before .before .before .before .args .w .now) (bytes "dismiss") forms (sym (c .before .same-bytes6 .ensures) ∙ c .if6 .taken)
 
 returns-7 : tie.Need-returns-7
 unfolding asks forms
