@@ -11,12 +11,11 @@ use Rattle.model.specs.declared.Named.{Named}
 use Rattle.model.specs.declared.Named.the-variants.{Role as nameRole, Capability as nameCapability}
 use Rattle.model.specs.declared.Context.{Context}
 use Rattle.model.specs.declared.Plan.{Plan}
-use Rattle.model.specs.State.{Terms, claims, below, inContext, admitted}
+use Rattle.model.specs.State.{newCapability, Terms, claims, below, inContext, admitted}
 use Rattle.model.specs.Rules.{isUser, isOrigin, bits}
 use Rattle.model.specs.Setters.{withCreations}
 use Rattle.model.specs.Rulings.{Guard, _unless_, _when_}
 use Rattle.model.specs.Requests.{namedOrigin}
-use Rattle.model.specs.Delegation.{newCapability}
 use Rattle.slots.specs.declared.Slots.{Slots}
 use Rattle.slots.specs.Checks.{raisedOf}
 use Rattle.slots.specs.Slots.{Places, Ruled, settleSlots, withCreatedSlots}

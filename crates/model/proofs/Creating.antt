@@ -16,11 +16,11 @@ use Rattle.model.specs.declared.Capability.{Capability}
 use Rattle.model.specs.declared.Register.{Register}
 use Rattle.masks.specs.Tests.{countBelow}
 use Rattle.masks.proofs.MaskLaws.{ones-zero}
-use Rattle.model.specs.State.{capabilityTerms, Terms, terms, claims, authority, capabilityAt, originAt, blankCapability, exists}
+use Rattle.model.specs.State.{newCapability, capabilityTerms, Terms, terms, claims, authority, capabilityAt, originAt, blankCapability, exists}
 use Rattle.model.specs.Lineage.{children, isParent}
 use Rattle.model.specs.Rules.{earlier}
 use Rattle.model.specs.Setters.{withCreations}
-use Rattle.model.specs.Delegation.{createRuling, counted, mayCreate, newCapability}
+use Rattle.model.specs.Delegation.{createRuling, counted, mayCreate}
 use Rattle.model.specs.Rulings.{termsOf}
 use Rattle.masks.proofs.Truth.{T→true, T→false}
 use Rattle.masks.proofs.Bounded.{set-cases, countBelow-ext, countBelow-none}

@@ -3,10 +3,11 @@ use mathlib.Core.List.{List, [], _∷_}
 use Prim.Native.Nat.{ℕ}
 use Rattle.model.specs.declared.Origin.{Origin}
 use Rattle.model.specs.declared.Register.{Register}
+use Rattle.model.specs.State.{newCapability}
 use Rattle.model.specs.Rules.{wellFormed}
 use Rattle.model.specs.Rulings.{Effect, Ruling, Guard, _unless_, settle}
 use Rattle.model.specs.Administration.{enrolRuling, foundRuling, grantRuling, withdrawRuling, appointRuling, dismissRuling, clockRuling}
-use Rattle.model.specs.Delegation.{createRuling, newCapability, allowRuling, lendRuling, handRuling}
+use Rattle.model.specs.Delegation.{createRuling, allowRuling, lendRuling, handRuling}
 use Rattle.model.specs.Sessions.{openRuling, checkRuling, closeRuling}
 use Rattle.model.specs.Revocation.{Change, amendRuling, revokeRuling}
 use Rattle.model.specs.Comparison.{sameRuling}

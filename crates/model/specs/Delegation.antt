@@ -1,5 +1,5 @@
 -- create, allow, lend, hand.
-use mathlib.Core.Bool.{Bool, true, false}
+use mathlib.Core.Bool.{Bool, true}
 use mathlib.Core.List.{List, [], _∷_}
 use Prim.Native.Nat.{ℕ, suc}
 use lib.Bits.{bitOr}
@@ -24,29 +24,6 @@ counted cs (ofCapability n) = set cs n (withCreations (capabilityAt cs n) (suc (
 abbrev pub mayCreate : List Capability → Origin → Bool
 mayCreate cs (ofRole k) = true
 mayCreate cs (ofCapability n) = ltb ((capabilityAt cs n) .creations) ((capabilityAt cs n) .«creation_limit»)
-
--- "The new pass has .. no authority, no holder, counts 0"
-abbrev pub newCapability : (user : ℕ) (o : Origin) (first last uses creations hops hours places devices : ℕ) → Capability
-newCapability user o first last uses creations hops hours places devices =
-    record {
-      origin = o;
-      creator = user;
-      permissions = 0;
-      lent = 0;
-      holders = 0;
-      first = first;
-      last = last;
-      «use_limit» = uses;
-      uses = 0;
-      «creation_limit» = creations;
-      creations = 0;
-      «hop_limit» = hops;
-      hops = 0;
-      hours = hours;
-      places = places;
-      devices = devices;
-      revoked = false;
-    }
 
 -- "create user, role or pass, its number, hour place device, first last, use creation hop limits, hours places devices."
 -- c is the new capability; "6 user not appointed or not a holder, or authority lacks create", which is permission 0

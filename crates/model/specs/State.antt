@@ -15,6 +15,31 @@ use Rattle.model.specs.declared.Capability.{Capability}
 use Rattle.model.specs.declared.Session.{Session}
 use Rattle.model.specs.declared.Register.{Register}
 
+-- ---- a capability with nothing in it yet
+
+-- create: "The new pass has .. no authority, no holder, counts 0"
+abbrev pub newCapability : (user : ℕ) (o : Origin) (first last uses creations hops hours places devices : ℕ) → Capability
+newCapability user o first last uses creations hops hours places devices =
+    record {
+      origin = o;
+      creator = user;
+      permissions = 0;
+      lent = 0;
+      holders = 0;
+      first = first;
+      last = last;
+      «use_limit» = uses;
+      uses = 0;
+      «creation_limit» = creations;
+      creations = 0;
+      «hop_limit» = hops;
+      hops = 0;
+      hours = hours;
+      places = places;
+      devices = devices;
+      revoked = false;
+    }
+
 -- ---- "what is kept for a thing not there is 0"
 
 abbrev pub blankRole : Role
@@ -22,26 +47,7 @@ blankRole =
     record { founded = false; domain = 0; permissions = 0; hours = 0; places = 0; devices = 0; appointed = 0 }
 
 abbrev pub blankCapability : Capability
-blankCapability =
-    record {
-      origin = ofRole 0;
-      creator = 0;
-      permissions = 0;
-      lent = 0;
-      holders = 0;
-      first = 0;
-      last = 0;
-      «use_limit» = 0;
-      uses = 0;
-      «creation_limit» = 0;
-      creations = 0;
-      «hop_limit» = 0;
-      hops = 0;
-      hours = 0;
-      places = 0;
-      devices = 0;
-      revoked = false;
-    }
+blankCapability = newCapability 0 (ofRole 0) 0 0 0 0 0 0 0 0
 
 abbrev pub blankSession : Session
 blankSession = record { active = false; user = 0; on = ofRole 0; hour = 0; place = 0; device = 0 }
