@@ -10,7 +10,7 @@ use Rattle.model.specs.declared.Origin.{Origin}
 use Rattle.model.specs.declared.Origin.the-variants.{Role as ofRole, Capability as ofCapability}
 use Rattle.model.specs.declared.Capability.{Capability}
 use Rattle.model.specs.declared.Register.{Register}
-use Rattle.model.specs.State.{capabilityAt, authority, claims, below, inLife, memberOf, admitted, inContext}
+use Rattle.model.specs.State.{Terms, capabilityAt, authority, claims, below, inLife, memberOf, admitted, inContext}
 use Rattle.model.specs.Rules.{isUser, isCapability, isOrigin, bits}
 use Rattle.model.specs.Setters.{withPermissions, withLent, withHolders, withCreations, withCapabilities, withCount}
 use Rattle.model.specs.Rulings.{Ruling, _unless_, _when_, enrolled, present, capability, termsOf}
@@ -62,42 +62,32 @@ createRuling r user o hour place device c =
 abbrev pub putting : Register → ℕ → Capability → Register
 putting r n c = withCapabilities r (set (r .capabilities) n c)
 
--- "allow user pass permissions .. 6 user is not the creator; 7; 11 the mask exceeds what the origin may give ..; 4 it adds
--- no bit to the own permissions ... The value is the authority after it."
-unfoldable pub allowRuling : Register → ℕ → ℕ → ℕ → Ruling
-allowRuling r user n mask =
+-- allow and lend alike: `may` is what an origin may give, `own` is what a capability has of it, `put` puts that anew
+abbrev pub givingRuling : Register → (user n mask : ℕ) (may : Terms → ℕ) (own : Capability → ℕ) (put : Capability → ℕ → Capability) → Ruling
+givingRuling r user n mask may own put =
     let c : Capability = capability r n in
-    let d : Capability = withPermissions c (bitOr (c .permissions) mask) in
+    let d : Capability = put c (bitOr (own c) mask) in
     record {
       guards =
           2 unless (isUser user ∷ isCapability n ∷ bits 32 mask ∷ [])
           ∷ 3 unless (enrolled r user ∷ present r (ofCapability n) ∷ [])
           ∷ 6 unless (eqb (c .creator) user ∷ [])
           ∷ 7 when c .revoked
-          ∷ 11 unless (within mask ((termsOf r (c .origin)) .grants) ∷ [])
-          ∷ 4 when within mask (c .permissions)
+          ∷ 11 unless (within mask (may (termsOf r (c .origin))) ∷ [])
+          ∷ 4 when within mask (own c)
           ∷ [];
       result = authority (r .roles) d;
       after = putting r n d;
     }
 
+-- "allow user pass permissions .. 6 user is not the creator; 7; 11 the mask exceeds what the origin may give ..; 4 it adds
+-- no bit to the own permissions ... The value is the authority after it."
+unfoldable pub allowRuling : Register → ℕ → ℕ → ℕ → Ruling
+allowRuling r user n mask = givingRuling r user n mask (λ t. t .grants) (λ c. c .permissions) withPermissions
+
 -- "lend user pass roles (masks) .. (also for a role not founded); 4 it adds no bit to the .. lent roles."
 unfoldable pub lendRuling : Register → ℕ → ℕ → ℕ → Ruling
-lendRuling r user n mask =
-    let c : Capability = capability r n in
-    let d : Capability = withLent c (bitOr (c .lent) mask) in
-    record {
-      guards =
-          2 unless (isUser user ∷ isCapability n ∷ bits 32 mask ∷ [])
-          ∷ 3 unless (enrolled r user ∷ present r (ofCapability n) ∷ [])
-          ∷ 6 unless (eqb (c .creator) user ∷ [])
-          ∷ 7 when c .revoked
-          ∷ 11 unless (within mask ((termsOf r (c .origin)) .lendable) ∷ [])
-          ∷ 4 when within mask (c .lent)
-          ∷ [];
-      result = authority (r .roles) d;
-      after = putting r n d;
-    }
+lendRuling r user n mask = givingRuling r user n mask (λ t. t .lendable) (λ c. c .lent) withLent
 
 -- "hand user receiver pass. 2; 3; 6 not the creator; 7; 4 receiver holds it; 10 hops at their limit. The value is the hop
 -- count after it."
