@@ -1,16 +1,10 @@
 -- A register read section by section, each from the place after the one before it, is `decode` of the bytes.
 use mathlib.Core.Path.{_≡_, refl, sym, ap, _∙_}
 use mathlib.Core.List.{List}
-use Prim.Native.Nat.{ℕ, zero, suc, _+_, _-_}
+use Prim.Native.Nat.{ℕ, zero, suc, _+_}
 use lib.ListN.{drop}
 use lib.Seq.{drop-drop}
-use Rattle.model.specs.declared.Origin.the-variants.{Capability as ofCapability}
-use Rattle.model.specs.Fields.{originOf}
-use Rattle.model.specs.Image.{itemOr, chosenLength, afterChosen, mapAt, decode}
-
-pub origin-capability : (k n : ℕ) → (k ≡ 0 → ⊥) → originOf k n ≡ ofCapability n
-origin-capability zero n h = absurd (h refl)
-origin-capability (suc k) n h = refl
+use Rattle.model.specs.Image.{itemOr, chosenLength, afterChosen, mapAt}
 
 pub item-set : {A : Type 0} (blank : A) (read : List ℕ → A) (b : ℕ) (s : List ℕ) → (b ≡ 0 → ⊥) → itemOr blank read b s ≡ read s
 item-set blank read zero s h = absurd (h refl)

@@ -19,14 +19,17 @@ use Rattle.model.specs.Invariant.{WellFormed}
 use Rattle.model.specs.Fields.{writeRole, readRole, writeSession, readSession, capabilityLength}
 use Rattle.model.specs.Image.{writeChosen, readChosen, chosenLength, writeCapabilities, readCapabilities, afterCapabilities, mapAt, afterChosen, activeSessions, encode, decode, loads}
 use Rattle.model.proofs.Rules.{formed→}
-use Rattle.image.specs.Codes.{Bytes}
-use Rattle.image.specs.Exact.{exactCapabilities, capabilitiesLength, exactSessions, exactImage}
-use Rattle.image.proofs.Numbers.{length-bytes, length-map, same-refl}
-use Rattle.image.proofs.Reading.{bytes-drop, mask-small}
+use Rattle.fields.specs.Codes.{Bytes}
+use Rattle.records.specs.Exact.{exactCapabilities, capabilitiesLength}
+use Rattle.image.specs.Exact.{exactSessions, exactImage}
+use Rattle.fields.proofs.Numbers.{length-bytes, length-map, same-refl}
+use Rattle.fields.proofs.Reading.{bytes-drop, mask-small}
+use Rattle.fields.proofs.ExactFields.{first-join, first-all, number-again, map-again}
+use Rattle.records.proofs.ExactRecords.{capabilities-at, capabilities-again}
+use Rattle.records.proofs.ExactWriting.{capabilities-exact, capabilities-length}
 use Rattle.image.proofs.Whole.{image-size}
 use Rattle.image.proofs.RoundTrip.{sessionsPart, created, capabilitiesPart, rolesPart, usersPart, users, roles, sessions, amount, ranges, count-back, few, count-drop, created-after}
-use Rattle.image.proofs.ExactRecords.{capabilities-at, first-join, first-all, number-again, map-again, capabilities-again}
-use Rattle.image.proofs.ExactSections.{domains-again, roles-again, sessions-again, founded-again, active-again, capabilities-exact, capabilities-length, sessions-whole}
+use Rattle.image.proofs.ExactSections.{domains-again, roles-again, sessions-again, founded-again, active-again, sessions-whole}
 
 -- ---- exact bytes are written again as they were
 

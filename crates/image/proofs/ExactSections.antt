@@ -1,31 +1,30 @@
 -- Sections read from bytes and written again are the bytes that were read, where they are exact; and what is written is exact.
-use mathlib.Core.Path.{_≡_, refl, sym, ap, subst, _∙_}
+use mathlib.Core.Path.{_≡_, refl, ap, subst}
 use mathlib.Core.Bool.{Bool, true, false}
 use mathlib.Core.List.{List, [], _∷_, _++_, append-assoc, append-nil}
 use Prim.Native.Nat.{ℕ, zero, suc, _*_, _/_, _%_, _^_, _<_}
 use native.Mathlib.Nat.{pow-suc, zero-mul, one-mul}
 use native.Mathlib.Omega.{arith}
-use lib.Dec.{T, eqb, ltb, lt→ltb}
-use lib.ListN.{length, drop, getD, length-append}
+use lib.Dec.{T}
+use lib.ListN.{length, drop}
 use lib.Seq.{drop-at}
 use Rattle.masks.specs.Bytes.{bytesOf, firstBytes}
-use Rattle.masks.proofs.Truth.{and-l, and-r, and-i, eq→eqb}
-use Rattle.model.specs.declared.Origin.{Origin}
-use Rattle.model.specs.declared.Origin.the-variants.{Role as ofRole, Capability as ofCapability}
+use Rattle.masks.proofs.Truth.{and-l, and-r, and-i}
 use Rattle.model.specs.declared.Role.{Role}
-use Rattle.model.specs.declared.Capability.{Capability}
 use Rattle.model.specs.declared.Session.{Session}
 use Rattle.model.specs.State.{blankRole, blankSession}
-use Rattle.model.specs.Invariant.{CapabilityRanges}
-use Rattle.model.specs.Fields.{bit, kindOf, fieldMap, readPresent, roleOf, writeRole, readRole, sessionCodings, sessionFields, sessionOf, writeSession, readSession, headFields, capabilityCodings, writeCapability, readHead, capabilityLength}
-use Rattle.model.specs.Image.{maskWhere, chosen, writeChosen, itemOr, readChosen, chosenLength, writeCapabilities, foundedRoles, activeSessions}
-use Rattle.image.specs.Codes.{Bytes}
-use Rattle.image.specs.Exact.{exactCapability, exactCapabilities, capabilitiesLength, exactSession, exactSessions}
+use Rattle.model.specs.Fields.{bit, roleOf, writeRole, readRole, sessionOf, writeSession, readSession}
+use Rattle.model.specs.Image.{maskWhere, chosen, writeChosen, itemOr, readChosen, chosenLength, foundedRoles, activeSessions}
+use Rattle.fields.specs.Codes.{Bytes}
+use Rattle.records.specs.Exact.{exactSession}
+use Rattle.image.specs.Exact.{exactSessions}
+use Rattle.fields.proofs.Reading.{bytes-drop}
+use Rattle.fields.proofs.ExactFields.{first-join, number-again}
+use Rattle.records.proofs.Records.{session-size}
+use Rattle.records.proofs.ExactRecords.{role-again, session-again}
+use Rattle.records.proofs.ExactWriting.{session-exact}
 use Rattle.image.proofs.Sections.{item-length}
-use Rattle.image.proofs.Records.{session-size, head-back, map-back, fields-back, capability-length, AllInRange}
-use Rattle.image.proofs.Reading.{bytes-drop}
 use Rattle.image.proofs.RoundTrip.{readDomain}
-use Rattle.image.proofs.ExactRecords.{first-join, number-again, role-again, session-again}
 
 -- ---- a section read and written again
 
@@ -105,46 +104,6 @@ unfolding activeSessions readSession sessionOf
 active-again m t l = where-again blankSession writeSession readSession 6 (λ (x : Session). x .active) refl (λ u. refl) m 64 t l
 
 -- ---- what is written is exact
-
-kind-small : (o : Origin) → kindOf o < 2
-kind-small (ofRole n) = omega arith
-kind-small (ofCapability n) = omega arith
-
-module _ (c : Capability) (h : CapabilityRanges c) (rest : List ℕ) where
-  abbrev bytes : List ℕ
-  bytes = writeCapability c ++ rest
-
-  capability-exact : T (exactCapability bytes)
-  unfolding headFields
-  capability-exact =
-      let kind : getD (readHead bytes) 0 0 ≡ kindOf (c .origin) = ap (λ (l : List ℕ). getD l 0 0) (head-back c h rest) in
-      let fields : List ℕ = readPresent (getD (readHead bytes) 3 0) capabilityCodings (drop 5 bytes) in
-      let small : getD (readHead bytes) 0 0 < 2 = rw kind (kind-small (c .origin)) in
-      and-i (ltb (getD (readHead bytes) 0 0) 2) (eqb (fieldMap fields) (getD (readHead bytes) 3 0))
-      (lt→ltb (getD (readHead bytes) 0 0) 2 small)
-      (eq→eqb (fieldMap fields) (getD (readHead bytes) 3 0) (ap fieldMap (fields-back c h rest) ∙ sym (map-back c h rest)))
-
-  capability-drop : drop (capabilityLength bytes) bytes ≡ rest
-  capability-drop = drop-at (writeCapability c) rest (capabilityLength bytes) (sym (capability-length c h rest))
-
-pub capabilities-exact : (cs : List Capability) (rest : List ℕ) → AllInRange cs → T (exactCapabilities (length cs) (writeCapabilities cs ++ rest))
-capabilities-exact [] rest h = tt
-capabilities-exact (c ∷ cs) rest h =
-    let s : List ℕ = writeCapabilities cs ++ rest in
-    rw (append-assoc (writeCapability c) (writeCapabilities cs) rest, capability-drop c (h .0) s)
-    (and-i (exactCapability (writeCapability c ++ s)) (exactCapabilities (length cs) s) (capability-exact c (h .0) s) (capabilities-exact cs rest (h .1)))
-
-pub capabilities-length : (cs : List Capability) (rest : List ℕ) → AllInRange cs → capabilitiesLength (length cs) (writeCapabilities cs ++ rest) ≡ length (writeCapabilities cs)
-capabilities-length [] rest h = refl
-capabilities-length (c ∷ cs) rest h =
-    let s : List ℕ = writeCapabilities cs ++ rest in
-    rw (append-assoc (writeCapability c) (writeCapabilities cs) rest, capability-drop c (h .0) s, capability-length c (h .0) s, length-append, capabilities-length cs rest (h .1))
-
-session-exact : (x : Session) (rest : List ℕ) → T (exactSession (writeSession x ++ rest))
-unfolding writeSession sessionCodings sessionFields
-session-exact x rest =
-    let small : kindOf (x .on) / 256 ^ 0 % 256 < 2 = omega (arith, kind-small (x .on)) in
-    lt→ltb (kindOf (x .on) / 256 ^ 0 % 256) 2 small
 
 sessions-exact : (m : ℕ) (l : List Session) (rest : List ℕ) → T (exactSessions m (length l) (writeChosen writeSession m l ++ rest))
 sessions-exact m [] rest = tt

@@ -1,18 +1,10 @@
--- Laws of bytes, fields, records and sections; the round trip.
-pub mod Numbers
-pub mod Parts
-pub mod Writing
-pub mod Putting
-pub mod Fields
-pub mod Codes
+-- Laws of sections and of whole images; the round trip.
 pub mod Sections
+pub mod Putting
 pub mod Marking
-pub mod Records
 pub mod Reading
-pub mod Tables
 pub mod Whole
 pub mod RoundTrip
-pub mod ExactRecords
 pub mod ExactSections
 pub mod Exact
 pub mod Decoding

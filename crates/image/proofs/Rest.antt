@@ -16,9 +16,10 @@ use Rattle.model.specs.declared.Register.{Register}
 use Rattle.model.specs.State.{blankRole, blankCapability, blankSession}
 use Rattle.model.specs.Fields.{readRole, readSession, readCapability, capabilityLength}
 use Rattle.model.specs.Image.{readChosen, chosenLength, readCapabilities, afterCapabilities, mapAt, afterChosen, decode}
-use Rattle.image.specs.Exact.{exactCapability, exactCapabilities, capabilitiesLength, exactSessions, registerFrom, exactFrom, exactImage}
-use Rattle.image.proofs.Parts.{rest-step}
-use Rattle.image.proofs.Reading.{capability-length-small, capabilities-turn, after-turn, exact-turn, length-turn}
+use Rattle.records.specs.Exact.{exactCapability, exactCapabilities, capabilitiesLength}
+use Rattle.image.specs.Exact.{exactSessions, registerFrom, exactFrom, exactImage}
+use Rattle.fields.proofs.Parts.{rest-step}
+use Rattle.records.proofs.Reading.{capability-length-small, capabilities-turn, after-turn, exact-turn, length-turn}
 use Rattle.image.proofs.RoundTrip.{readDomain, registerOf, same-register}
 use Rattle.image.proofs.Decoding.{after-section}
 

@@ -22,9 +22,9 @@ use Rattle.model.specs.Fields.{writeRole, readRole, writeSession, readSession}
 use Rattle.model.specs.Image.{writeChosen, writeCapabilities, readChosen, readCapabilities, afterCapabilities, afterChosen, mapAt, foundedRoles, activeSessions, encode, decode, loads}
 use Rattle.model.proofs.Rules.{formed→}
 use Rattle.image.specs.Laws.{ImageOf, ImageLaws}
-use Rattle.image.proofs.Numbers.{length-bytes, length-map, number-back, map-item, same-refl}
+use Rattle.fields.proofs.Numbers.{length-bytes, length-map, number-back, map-item, same-refl}
+use Rattle.records.proofs.Records.{domain-good, role-good, role-size, session-good, session-size, AllInRange, in-range, capabilities-back, capabilities-after, capabilities-small}
 use Rattle.image.proofs.Sections.{Kept, kept, Section, section-back, where-small, has-where, chosen-small}
-use Rattle.image.proofs.Records.{domain-good, role-good, role-size, session-good, session-size, AllInRange, in-range, capabilities-back, capabilities-after, capabilities-small}
 
 -- ---- the sections of an image, each with all that follows it
 

@@ -14,7 +14,8 @@ use Rattle.masks.specs.Masks.{has}
 use Rattle.masks.specs.Bytes.{mapBytes}
 use Rattle.model.specs.Fields.{bit}
 use Rattle.model.specs.Image.{maskWhere, chosen, writeChosen, itemOr, readChosen, chosenLength, mapAt, afterChosen}
-use Rattle.image.proofs.Numbers.{length-map, map-back}
+use Rattle.fields.proofs.Numbers.{length-map, map-back}
+use Rattle.records.proofs.Records.{Good}
 
 -- ---- the bits of a mask from the lowest on
 
@@ -54,10 +55,6 @@ has-where p (a ∷ l) d (suc k) h =
     sym (has-next (maskWhere p (a ∷ l)) k) ∙ ap (λ (x : ℕ). has x k) (bits-after (p a) (maskWhere p l)) ∙ has-where p l d k (le-of-suc-le-suc h)
 
 -- ---- items of w bytes each
-
--- a is read again as it was written
-abbrev pub Good : {A : Type 0} → (A → List ℕ) → (List ℕ → A) → A → Type 0
-Good write read a = (rest : List ℕ) → read (write a ++ rest) ≡ a
 
 too-large : (n : ℕ) → suc (suc n) < 2 → ⊥
 too-large n h = omega arith

@@ -11,10 +11,10 @@ use Rattle.model.specs.declared.Register.{Register}
 use Rattle.model.specs.State.{blankRole, blankSession}
 use Rattle.model.specs.Fields.{writeRole, readRole, writeSession, readSession}
 use Rattle.model.specs.Image.{writeChosen, writeCapabilities, chosenLength, foundedRoles, activeSessions, encode}
-use Rattle.image.specs.Codes.{mapped, counted}
-use Rattle.image.proofs.Numbers.{length-bytes, length-map}
+use Rattle.image.specs.Sections.{mapped, counted}
+use Rattle.fields.proofs.Numbers.{length-bytes, length-map}
+use Rattle.records.proofs.Records.{role-size, session-size}
 use Rattle.image.proofs.Sections.{chosen-length}
-use Rattle.image.proofs.Records.{role-size, session-size}
 
 -- ---- sections
 

@@ -3,33 +3,15 @@
 use mathlib.Core.Bool.{Bool, true, _&&_}
 use mathlib.Core.List.{List, _++_}
 use Prim.Native.Nat.{ℕ, zero, suc, _+_, _-_, _*_, _/_, _%_, min}
-use lib.Dec.{eqb, ltb}
-use lib.ListN.{length, drop, getD, replicate}
+use lib.Dec.{eqb}
+use lib.ListN.{length, drop, replicate}
 use Rattle.masks.specs.Bytes.{numberOf, firstBytes}
 use Rattle.model.specs.declared.Role.{Role}
 use Rattle.model.specs.declared.Register.{Register}
 use Rattle.model.specs.State.{blankCapability, blankSession}
-use Rattle.model.specs.Fields.{readSession, fieldMap, readPresent, capabilityCodings, readHead, capabilityLength}
+use Rattle.model.specs.Fields.{readSession}
 use Rattle.model.specs.Image.{itemOr, readChosen, chosenLength, readCapabilities, afterCapabilities, mapAt, afterChosen}
-
--- "kind (1: 0 role, 1 pass)", and a field's bit is set "exactly when they are not zero"
-abbrev pub exactCapability : List ℕ → Bool
-exactCapability t =
-    ltb (getD (readHead t) 0 0) 2
-    && eqb (fieldMap (readPresent (getD (readHead t) 3 0) capabilityCodings (drop 5 t))) (getD (readHead t) 3 0)
-
--- n capabilities, and the bytes that they take
-abbrev pub exactCapabilities : ℕ → List ℕ → Bool
-exactCapabilities zero t = true
-exactCapabilities (suc n) t = exactCapability t && exactCapabilities n (drop (capabilityLength t) t)
-
-abbrev pub capabilitiesLength : ℕ → List ℕ → ℕ
-capabilitiesLength zero t = 0
-capabilitiesLength (suc n) t = capabilityLength t + capabilitiesLength n (drop (capabilityLength t) t)
-
--- "user (1), kind (1: 0 role, 1 pass)"
-abbrev pub exactSession : List ℕ → Bool
-exactSession t = ltb (getD t 1 0) 2
+use Rattle.records.specs.Exact.{exactCapabilities, capabilitiesLength, exactSession}
 
 -- k sessions by the mask m
 abbrev pub exactSessions : ℕ → ℕ → List ℕ → Bool

@@ -1,4 +1,4 @@
--- What holds of images, and what the code's tables mean; the definitions of images are those of `model`.
+-- What holds of images, what their sections are, and which bytes are exact; the definitions of images are those of `model`.
 pub mod Laws
-pub mod Codes
+pub mod Sections
 pub mod Exact

@@ -16,11 +16,7 @@ use model::Register;
 use rules::well_formed;
 use rules::well_formed_read;
 
-mod field;
 mod loader;
-mod number;
-mod reader;
-mod record;
 mod section;
 mod writer;
 

@@ -4,26 +4,27 @@ ghost use mathlib.Core.Bool.{true};
 ghost use Prim.Native.Nat.{_<_, min};
 ghost use lib.ListN.{length, drop};
 ghost use Rattle.masks.specs.Bytes.{numberOf, firstBytes};
-ghost use Rattle.model.specs.State.{blankRole, blankCapability, blankSession};
+ghost use Rattle.model.specs.State.{blankRole, blankSession};
 ghost use Rattle.model.specs.Fields.{readRole, readSession};
 ghost use Rattle.model.specs.Image.{itemOr, readChosen, decode};
-ghost use Rattle.image.specs.Codes.{Bytes};
-ghost use Rattle.image.specs.Exact.{exactSession, exactSessions, exactImage, exactFrom, registerFrom};
-use crate::field::if_set;
-use crate::number::byte_at;
-use crate::number::byte_count;
-use crate::number::get_at;
-use crate::number::get_map;
-use crate::reader::read_capability;
-use crate::reader::read_role;
-use crate::reader::read_session;
+ghost use Rattle.fields.specs.Codes.{Bytes};
+ghost use Rattle.records.specs.Exact.{exactSession};
+ghost use Rattle.image.specs.Exact.{exactSessions, exactImage, exactFrom, registerFrom};
 use crate::section::chosen_length;
+use fields::field::if_set;
+use fields::number::byte_at;
+use fields::number::byte_count;
+use fields::number::get_at;
+use fields::number::get_map;
 use model::Register;
 use model::Role;
 use model::Session;
 use model::blank_capability;
 use model::blank_role;
 use model::blank_session;
+use records::reader::read_capability;
+use records::reader::read_role;
+use records::reader::read_session;
 
 fn read_domain_if(s: &[u8], at: usize, bit: u64) -> u8
     requires { ⌜ (at < 60000) × Bytes (now s) ⌝ }

@@ -5,15 +5,15 @@ ghost use lib.ListN.{length, take};
 ghost use Rattle.masks.specs.Bytes.{bytesOf, front};
 ghost use Rattle.model.specs.Fields.{writeRole, writeSession};
 ghost use Rattle.model.specs.Image.{chosen, writeChosen, chosenLength, foundedRoles, activeSessions, writeCapabilities};
-use crate::field::if_set;
-use crate::number::put;
-use crate::record::bit_of;
-use crate::record::put_capability;
-use crate::record::put_role;
-use crate::record::put_session;
+use fields::field::if_set;
+use fields::number::put;
 use model::Capability;
 use model::Role;
 use model::Session;
+use records::record::bit_of;
+use records::record::put_capability;
+use records::record::put_role;
+use records::record::put_session;
 
 // The mask of the founded roles.
 pub fn founded_mask(roles: [Role; 32]) -> u64

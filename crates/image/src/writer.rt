@@ -1,19 +1,19 @@
 // The image of a register, written section by section.
 ghost use mathlib.Core.Path.{_≡_};
-ghost use Prim.Native.Nat.{_<_, _≤_};
+ghost use Prim.Native.Nat.{_≤_};
 ghost use lib.ListN.{length};
 ghost use Rattle.masks.specs.Bytes.{bytesOf, front};
 ghost use Rattle.model.specs.Fields.{writeRole, writeSession};
 ghost use Rattle.model.specs.Image.{foundedRoles, activeSessions, encode};
-ghost use Rattle.image.specs.Codes.{mapped, counted};
-use crate::number::put;
-use crate::number::put_map;
+ghost use Rattle.image.specs.Sections.{mapped, counted};
 use crate::section::active_mask;
 use crate::section::founded_mask;
 use crate::section::put_capabilities;
 use crate::section::put_domains;
 use crate::section::put_roles;
 use crate::section::put_sessions;
+use fields::number::put;
+use fields::number::put_map;
 use model::Capability;
 use model::Register;
 use model::Role;

@@ -2,8 +2,8 @@
 use mathlib.Core.Path.{sym, _∙_}
 use native.Mathlib.Omega.{arith}
 use lib.ListN.{drop}
+use Rattle.fields.proofs.Reading.{bytes-drop, number-small}
 use Rattle.image.proofs.RoundTrip.{readDomain}
-use Rattle.image.proofs.Reading.{bytes-drop, number-small}
 use Rattle.image.proofs.Decoding.{item-set, item-none}
 use borrow.Author.Needs.{needs}
 use Rattle.image.proofs.loader.read_domain_if.Statement.{statement}

@@ -3,7 +3,7 @@ use mathlib.Core.Path.{ap, _∙_}
 use Prim.Native.Nat.{ℕ, _+_}
 use native.Mathlib.Omega.{arith}
 use lib.ListN.{drop}
-use Rattle.image.proofs.Reading.{bytes-drop, number-small}
+use Rattle.fields.proofs.Reading.{bytes-drop, number-small}
 use Rattle.image.proofs.Rest.{image-register, image-exact}
 use borrow.Author.Needs.{needs}
 use Rattle.image.proofs.loader.read_image.Statement.{statement}

@@ -4,7 +4,7 @@ use Prim.Native.Nat.{_+_, _-_, _≤_}
 use native.Mathlib.Nat.{min-le-left}
 use native.Mathlib.Omega.{arith}
 use lib.ListN.{length, drop, replicate}
-use Rattle.image.proofs.Reading.{bytes-drop, number-small}
+use Rattle.fields.proofs.Reading.{bytes-drop, number-small}
 use Rattle.image.proofs.Rest.{ReadTo, read-start, read-step, read-rows, read-after, read-exact, read-reach, rest-register, rest-exact}
 use borrow.Author.Needs.{needs}
 use Rattle.image.proofs.loader.read_rest.Statement.{statement}

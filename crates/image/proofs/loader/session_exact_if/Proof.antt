@@ -5,7 +5,7 @@ use Prim.Native.Nat.{ℕ}
 use lib.Dec.{ltb}
 use lib.ListN.{drop}
 use lib.Seq.{getD-drop}
-use Rattle.image.specs.Exact.{exactSession}
+use Rattle.records.specs.Exact.{exactSession}
 use Rattle.image.proofs.Decoding.{item-set, item-none}
 use borrow.Author.Needs.{needs}
 use Rattle.image.proofs.loader.session_exact_if.Statement.{statement}

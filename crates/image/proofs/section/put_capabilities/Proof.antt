@@ -7,8 +7,8 @@ use lib.ListN.{length, take, drop, getD}
 use Rattle.model.specs.State.{blankCapability}
 use Rattle.model.specs.Fields.{writeCapability}
 use Rattle.model.specs.Image.{writeCapabilities}
-use Rattle.image.proofs.Records.{capabilities-step, capabilities-done}
-use Rattle.image.proofs.Writing.{Writing, writing-start, writing-fits, writing-within, writing-step, writing-done}
+use Rattle.fields.proofs.Writing.{Writing, writing-start, writing-fits, writing-within, writing-step, writing-done}
+use Rattle.records.proofs.Records.{capabilities-step, capabilities-done}
 use borrow.Author.Needs.{needs}
 use Rattle.image.proofs.section.put_capabilities.Statement.{statement}
 use Rattle.image.proofs.section.put_capabilities.Tie as tie

@@ -1,8 +1,7 @@
 -- `image::section::put_domain_if` meets its contract.
-use mathlib.Core.Path.{ap}
+use mathlib.Core.Path.{ap, refl}
 use native.Mathlib.Omega.{arith}
 use lib.ListN.{length}
-use mathlib.Core.Path.{refl}
 use Rattle.masks.specs.Bytes.{bytesOf}
 use Rattle.image.proofs.Sections.{chosen-set}
 use borrow.Author.Needs.{needs}

@@ -8,9 +8,9 @@ use Rattle.buffers.proofs.Parts.{length-tail}
 use Rattle.masks.specs.Bytes.{mapBytes, front}
 use Rattle.model.specs.Fields.{writeRole}
 use Rattle.model.specs.Image.{writeChosen}
-use Rattle.image.specs.Codes.{mapped}
-use Rattle.image.proofs.Numbers.{length-map}
-use Rattle.image.proofs.Parts.{two-parts}
+use Rattle.image.specs.Sections.{mapped}
+use Rattle.fields.proofs.Numbers.{length-map}
+use Rattle.fields.proofs.Parts.{two-parts}
 use Rattle.image.proofs.Whole.{mapped-parts, mapped-size}
 use borrow.Author.Needs.{needs}
 use Rattle.image.proofs.writer.put_founded.Statement.{statement}

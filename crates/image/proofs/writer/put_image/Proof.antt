@@ -7,8 +7,8 @@ use lib.ListN.{length}
 use Rattle.buffers.proofs.Parts.{length-tail}
 use Rattle.masks.specs.Bytes.{bytesOf}
 use Rattle.model.specs.Image.{encode}
-use Rattle.image.proofs.Numbers.{length-bytes}
-use Rattle.image.proofs.Writing.{writing-first, writing-step, writing-done}
+use Rattle.fields.proofs.Numbers.{length-bytes}
+use Rattle.fields.proofs.Writing.{writing-first, writing-step, writing-done}
 use Rattle.image.proofs.Whole.{usersBytes, rolesBytes, capabilitiesBytes, sessionsBytes, encode-sections, sections-size}
 use borrow.Author.Needs.{needs}
 use Rattle.image.proofs.writer.put_image.Statement.{statement}

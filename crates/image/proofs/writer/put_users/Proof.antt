@@ -5,12 +5,11 @@ use Prim.Native.Nat.{ℕ, _≤_}
 use native.Mathlib.Omega.{arith}
 use lib.ListN.{length}
 use Rattle.buffers.proofs.Parts.{length-tail}
-use Rattle.masks.specs.Bytes.{mapBytes, front}
-use Rattle.masks.specs.Bytes.{bytesOf}
+use Rattle.masks.specs.Bytes.{mapBytes, front, bytesOf}
 use Rattle.model.specs.Image.{writeChosen}
-use Rattle.image.specs.Codes.{mapped}
-use Rattle.image.proofs.Numbers.{length-map}
-use Rattle.image.proofs.Parts.{two-parts}
+use Rattle.image.specs.Sections.{mapped}
+use Rattle.fields.proofs.Numbers.{length-map}
+use Rattle.fields.proofs.Parts.{two-parts}
 use Rattle.image.proofs.Whole.{mapped-parts, mapped-size}
 use borrow.Author.Needs.{needs}
 use Rattle.image.proofs.writer.put_users.Statement.{statement}
