@@ -6,6 +6,7 @@ ghost use Rattle.slots.specs.Checks.{checked, firstNumber};
 ghost use Rattle.slots.specs.Slots.{ruledOf};
 ghost use Rattle.slots.specs.Terms.{termsIn};
 ghost use Rattle.delegation.specs.Delegation.{handGuards, giveGuards, giveDecision, originTerms, renewedIn};
+use masks::join;
 use masks::member;
 use model::Answer;
 use model::Capability;
@@ -17,7 +18,6 @@ use slots::checks::Check;
 use slots::checks::first;
 use slots::terms::Allowance;
 use slots::terms::allowance_of;
-use slots::terms::lent;
 
 // Every item of the mask a is one of b.
 pub fn contained(a: u32, b: u32) -> bool
@@ -33,7 +33,7 @@ pub fn renewed(v: Slots, permissions: &[u32; 32], d: Capability) -> Decision
     let mut w = v;
     w.capability = d;
     Decision {
-        answer: Answer::Value(d.permissions | lent(permissions, d.lent)),
+        answer: Answer::Value(d.permissions | join(permissions, d.lent)),
         slots: w,
     }
 }
@@ -44,7 +44,7 @@ pub fn origin_allows(v: Slots, permissions: &[u32; 32], o: Origin) -> Allowance
 {
     let c = v.parent;
     let x = v.role;
-    allowance_of(o, x, c, lent(permissions, c.lent))
+    allowance_of(o, x, c, join(permissions, c.lent))
 }
 
 // The tests of hand, from the last to the first.

@@ -1,15 +1,16 @@
 -- The masks of the items of a mask, joined: the least mask that has them all.
-use mathlib.Core.Path.{_≡_, sym, ap, subst, fun-ext}
+use mathlib.Core.Path.{_≡_, refl, sym, ap, ap₂, _∙_, subst, fun-ext}
 use mathlib.Core.Logic.{_⊎_, inl, inr}
 use mathlib.Core.Bool.{Bool, true, false, cond}
-use Prim.Native.Nat.{ℕ, zero, suc, _<_}
+use Prim.Native.Nat.{ℕ, zero, suc, _+_, _^_, _<_}
 use native.Mathlib.Nat.{not-suc-le-zero, le-of-suc-le-suc, eq-or-lt-of-le}
+use native.Mathlib.Numerals.{add-one}
 use native.Mathlib.Omega.{arith}
 use lib.Bits.{bitOr}
-use lib.Dec.{T}
+use lib.Dec.{T, eqb→eq, eqb-refl}
 use Rattle.masks.specs.Masks.{has, within, joined}
 use Rattle.masks.proofs.Truth.{T→true}
-use Rattle.masks.proofs.MaskLaws.{within-trans, within-zero, within-or, within-or-l, within-or-r}
+use Rattle.masks.proofs.MaskLaws.{has-zero, has-single, within-refl, within-trans, within-zero, within-le, within-or, within-or-l, within-or-r}
 
 pub joined-least : (f : ℕ → ℕ) (m n x : ℕ) → ((k : ℕ) → k < n → T (has m k) → T (within (f k) x)) → T (within (joined f m n) x)
 unfolding joined
@@ -41,3 +42,28 @@ joined-mono f g m m′ n h w =
 
 pub joined-ext : (f g : ℕ → ℕ) (m n : ℕ) → ((k : ℕ) → f k ≡ g k) → joined f m n ≡ joined g m n
 joined-ext f g m n h = ap (λ (e : ℕ → ℕ). joined e m n) (fun-ext h)
+
+-- one item more
+pub joined-more : (f : ℕ → ℕ) (m n : ℕ) {x y : ℕ} → x ≡ joined f m n → y ≡ bitOr x (cond (has m n) (f n) 0) → y ≡ joined f m (n + 1)
+unfolding joined
+joined-more f m n p q = rw (add-one) (q ∙ ap (λ (z : ℕ). bitOr z (cond (has m n) (f n) 0)) p)
+
+-- the masks of the items go by the masks below n
+pub joined-same : (f g : ℕ → ℕ) (m n : ℕ) → ((k : ℕ) → k < n → f k ≡ g k) → joined f m n ≡ joined g m n
+unfolding joined
+joined-same f g m zero h = refl
+joined-same f g m (suc n) h =
+    ap₂ (λ (x y : ℕ). bitOr x (cond (has m n) y 0)) (joined-same f g m n (λ k l. h k (omega arith))) (h n (omega arith))
+
+-- of no item, and of one
+pub joined-none : (f : ℕ → ℕ) (n : ℕ) → joined f 0 n ≡ 0
+joined-none f n =
+    omega (arith, within-le (joined f 0 n) 0 (joined-least f 0 n 0 (λ k l t. absurd (subst T (has-zero k) t))))
+
+pub joined-one : (f : ℕ → ℕ) (j n : ℕ) → j < n → joined f (2 ^ j) n ≡ f j
+joined-one f j n g =
+    omega (
+      arith,
+      within-le (joined f (2 ^ j) n) (f j) (joined-least f (2 ^ j) n (f j) (λ k l t. subst (λ (x : ℕ). T (within (f k) (f x))) (eqb→eq k j (subst T (has-single j k) t)) (within-refl (f k)))),
+      within-le (f j) (joined f (2 ^ j) n) (joined-has f (2 ^ j) n j g (subst T (sym (has-single j j)) (eqb-refl j))),
+    )

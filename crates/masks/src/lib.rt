@@ -1,7 +1,9 @@
 // Masks: bit k stands for item k. This crate knows nothing of the register.
 ghost use mathlib.Core.Path.{_≡_};
+ghost use mathlib.Core.Bool.{cond};
 ghost use Prim.Native.Nat.{_<_, _^_};
-ghost use Rattle.masks.specs.Masks.{has, including, excluding};
+ghost use lib.ListN.{getD};
+ghost use Rattle.masks.specs.Masks.{has, including, excluding, joined};
 
 // Item k of a mask, for any number k.
 pub fn member(mask: u64, k: u32) -> bool
@@ -53,4 +55,39 @@ pub fn excluding64(mask: u64, k: u32) -> u64
     ensures { λ q. ⌜ q ≡ excluding mask k ⌝ }
 {
     mask ^ bit64(k)
+}
+
+// The mask p where item k is in the mask, else none.
+fn chosen(p: u32, mask: u32, k: u32) -> u32
+    ensures { λ q. ⌜ q ≡ cond (has mask k) p 0 ⌝ }
+{
+    if member(mask as u64, k) { p } else { 0 }
+}
+
+// The masks of the items of a mask, one after the other.
+fn join_each(column: &[u32; 32], mask: u32) -> u32
+    ensures { λ q. ⌜ q ≡ joined (λ k. getD (now (column .entry)) k 0) mask 32 ⌝ }
+{
+    let mut sum: u32 = 0;
+    let mut i: usize = 0;
+    while i < 32 {
+        sum = sum | chosen(column[i], mask, i as u32);
+        i = i + 1;
+    }
+    sum
+}
+
+// The masks of the items of a mask, joined; the column has that of each item. It is quick where there is at most one item, as
+// in the lent roles of every register that keeps the rules.
+pub fn join(column: &[u32; 32], mask: u32) -> u32
+    ensures { λ q. ⌜ q ≡ joined (λ k. getD (now (column .entry)) k 0) mask 32 ⌝ }
+{
+    let k = (u32::trailing_zeros(mask) % 32) as usize;
+    if mask == 0 {
+        0
+    } else if mask == 1 << k {
+        column[k]
+    } else {
+        join_each(column, mask)
+    }
 }

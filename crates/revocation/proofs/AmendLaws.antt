@@ -32,7 +32,7 @@ use Rattle.slots.proofs.SlotLaws.{settle-after}
 use Rattle.revocation.specs.declared.amending.Amendment.{Amendment}
 use Rattle.revocation.specs.Sweeping.{parentPlace, parentLimit, amendmentOf}
 use Rattle.revocation.specs.Guards.{amendGuards}
-use Rattle.revocation.proofs.SettleLaws.{settle-past, refuse-settled, pass-settled}
+use Rattle.slots.proofs.SettleLaws.{settle-past, refuse-settled, pass-settled}
 use Rattle.revocation.proofs.SweepLaws.{parent-limit}
 
 -- ---- what a change asks for

@@ -3,7 +3,6 @@ pub mod ColumnLaws
 pub mod Ascent
 pub mod Recursion
 pub mod SweepLaws
-pub mod SettleLaws
 pub mod RevokeLaws
 pub mod SameLaws
 pub mod AmendLaws

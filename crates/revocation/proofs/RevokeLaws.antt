@@ -34,7 +34,7 @@ use Rattle.revocation.specs.declared.sweeps.Swept.{Swept}
 use Rattle.revocation.specs.Sweeping.{markedBelow, newlyMarked, Marks}
 use Rattle.revocation.specs.Guards.{revokeGuards}
 use Rattle.revocation.specs.Tree.{lineageHas}
-use Rattle.revocation.proofs.SettleLaws.{settle-past, refuse-settled, pass-settled}
+use Rattle.slots.proofs.SettleLaws.{settle-past, refuse-settled, pass-settled}
 use Rattle.revocation.proofs.Ascent.{Origins, Creators, created-is}
 
 -- numbers that do not pass add nothing

@@ -19,7 +19,7 @@ use Rattle.slots.proofs.TermLaws.{Column, lent-column}
 use Rattle.revocation.specs.Guards.{sameGuards, sameAnswer}
 use Rattle.revocation.specs.Sweeping.{oneIf}
 use Rattle.revocation.specs.Tree.{lineageEnd}
-use Rattle.revocation.proofs.SettleLaws.{settle-past, settle-same}
+use Rattle.slots.proofs.SettleLaws.{settle-past, settle-same}
 use Rattle.revocation.proofs.Ascent.{Origins, root-is}
 
 -- x is where the lineage of capability n ends, by the column of origins

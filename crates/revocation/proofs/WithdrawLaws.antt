@@ -19,7 +19,7 @@ use Rattle.slots.specs.declared.checks.Check.the-variants.{Pass, Refuse}
 use Rattle.slots.specs.Checks.{checked, firstNumber}
 use Rattle.slots.proofs.CheckLaws.{in-range}
 use Rattle.revocation.specs.Guards.{withdrawGuards}
-use Rattle.revocation.proofs.SettleLaws.{settle-past, refuse-settled, pass-settled}
+use Rattle.slots.proofs.SettleLaws.{settle-past, refuse-settled, pass-settled}
 
 -- the register after the sweep over the capabilities, by the roles after the permission is taken from role j
 abbrev pub cutAfter : Register → Register

@@ -10,6 +10,7 @@ use crate::columns::origins_of;
 use crate::columns::permissions_of;
 use crate::lineage::root_of;
 use crate::sweeps::one_if;
+use masks::join;
 use model::Answer;
 use model::Capability;
 use model::Refusal;
@@ -17,7 +18,6 @@ use model::Register;
 use model::Reply;
 use slots::checks::Check;
 use slots::checks::first;
-use slots::terms::lent;
 
 pub fn same_check(count: u16, m: u32, n: u32) -> Check
     ensures { λ q. ⌜ checked q ≡ firstNumber (sameGuards count m n) ⌝ }
@@ -67,8 +67,8 @@ pub fn same_core(r: Register, m: u32, n: u32) -> Reply
     let b = r.capabilities[j];
     let x = r.roles[root_of(&origins, i) as usize];
     let y = r.roles[root_of(&origins, j) as usize];
-    let lent_a = lent(&permissions, a.lent);
-    let lent_b = lent(&permissions, b.lent);
+    let lent_a = join(&permissions, a.lent);
+    let lent_b = join(&permissions, b.lent);
     let answer = compare(r.count, m, n, a, b, x.domain, y.domain, lent_a, lent_b);
     Reply {
         answer: answer,

@@ -11,10 +11,10 @@ ghost use Rattle.model.specs.Sweeps.{limitOne};
 ghost use Rattle.model.specs.Administration.{cutPermissions};
 ghost use Rattle.revocation.specs.Sweeping.{parentPlace, parentRevoked, parentLimit, parentGrants, roleGrants, oneIf, Marks};
 use crate::columns::permissions_of;
+use masks::join;
 use model::Capability;
 use model::Origin;
 use model::Register;
-use slots::terms::lent;
 
 // Where the capability stands that is the origin; for a role any place serves.
 pub fn parent_of(o: Origin) -> u8
@@ -143,7 +143,7 @@ pub fn parent_grants(permissions: &[u32; 32], o: Origin, parent: Capability) -> 
 {
     match o {
         Origin::Role(k) => role_grants(permissions, k),
-        Origin::Capability(_) => parent.permissions | lent(permissions, parent.lent),
+        Origin::Capability(_) => parent.permissions | join(permissions, parent.lent),
     }
 }
 

@@ -23,7 +23,8 @@ use Rattle.model.specs.Rules.{isOrigin, isUser, isDomain, bits, userKeeps, role
 use Rattle.rules.specs.declared.limits.Limits.{Limits}
 use Rattle.rules.specs.Columns.{masked, isFounded, inDomain, BlankFrom}
 use Rattle.rules.specs.Limits.{numberOf, limitsOf, asTerms, roleKeepsWith, placeWith, sessionKeepsWith}
-use Rattle.rules.proofs.Laws.{fromLeft, left-each, all-below, all-rest, each-under, joined-same, within-masked}
+use Rattle.masks.proofs.JoinLaws.{joined-same}
+use Rattle.rules.proofs.Laws.{fromLeft, left-each, all-below, all-rest, each-under, within-masked}
 
 -- ---- origins: a role's number is below 32
 

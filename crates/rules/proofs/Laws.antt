@@ -11,7 +11,7 @@ use native.Mathlib.Omega.{arith}
 use borrow.Author.Count.{below-more}
 use borrow.Author.Tests.{lt-ltb, le-ltb, eq-eqb, eqb-false}
 use lib.Bits.{bitOr, or-zero-r}
-use lib.Dec.{T, not-T, lit<, eqb, ltb, eqb→eq, eqb-refl, lt→ltb}
+use lib.Dec.{T, not-T, lit<, eqb, ltb, eqb→eq, lt→ltb}
 use lib.ListN.{length, getD, set}
 use lib.Pow.{shl-exact, pow-mono}
 use lib.Seq.{getD-set-same, getD-set-other}
@@ -19,8 +19,7 @@ use Rattle.masks.specs.Masks.{has, within, joined}
 use Rattle.masks.specs.Tests.{each, implies, allBelow, allFrom}
 use Rattle.masks.proofs.Truth.{Each, true→T, T→false, and-r, and-i, implies-i, implies-e, decided, same-test}
 use Rattle.masks.proofs.Bounded.{allBelow-at, allBelow-i, all-at, all-i}
-use Rattle.masks.proofs.MaskLaws.{has-zero, has-or, has-single, has-lt, within-refl, within-le, within-has, has-within}
-use Rattle.masks.proofs.JoinLaws.{joined-least, joined-has}
+use Rattle.masks.proofs.MaskLaws.{has-zero, has-or, has-single, has-lt, within-has, has-within}
 use Rattle.rules.specs.Columns.{masked}
 
 -- ---- machine numbers
@@ -87,30 +86,6 @@ all-rest n m p l rest =
 pub masked-more : (n : ℕ) (p : ℕ → Bool) {x y : ℕ} → x ≡ masked p n → y ≡ bitOr x (cond (p n) (2 ^ n) 0) → y ≡ masked p (n + 1)
 unfolding masked
 masked-more n p e f = rw add-one (f ∙ ap (λ (m : ℕ). bitOr m (cond (p n) (2 ^ n) 0)) e)
-
-pub joined-more : (n m : ℕ) (f : ℕ → ℕ) {x y : ℕ} → x ≡ joined f m n → y ≡ bitOr x (cond (has m n) (f n) 0) → y ≡ joined f m (n + 1)
-unfolding joined
-joined-more n m f e g = rw add-one (g ∙ ap (λ (x : ℕ). bitOr x (cond (has m n) (f n) 0)) e)
-
--- the masks of the items go by the masks below n
-pub joined-same : (f g : ℕ → ℕ) (m n : ℕ) → ((k : ℕ) → k < n → f k ≡ g k) → joined f m n ≡ joined g m n
-unfolding joined
-joined-same f g m zero h = refl
-joined-same f g m (suc n) h =
-    ap₂ (λ (x y : ℕ). bitOr x (cond (has m n) y 0)) (joined-same f g m n (λ k l. h k (omega arith))) (h n (omega arith))
-
--- of no item, and of one
-pub joined-none : (f : ℕ → ℕ) (n : ℕ) → joined f 0 n ≡ 0
-joined-none f n =
-    omega (arith, within-le (joined f 0 n) 0 (joined-least f 0 n 0 (λ k l t. absurd (subst T (has-zero k) t))))
-
-pub joined-one : (f : ℕ → ℕ) (j n : ℕ) → j < n → joined f (2 ^ j) n ≡ f j
-joined-one f j n g =
-    omega (
-      arith,
-      within-le (joined f (2 ^ j) n) (f j) (joined-least f (2 ^ j) n (f j) (λ k l t. subst (λ (x : ℕ). T (within (f k) (f x))) (eqb→eq k j (subst T (has-single j k) t)) (within-refl (f k)))),
-      within-le (f j) (joined f (2 ^ j) n) (joined-has f (2 ^ j) n j g (subst T (sym (has-single j j)) (eqb-refl j))),
-    )
 
 -- a column, filled one place further
 pub column-more : (f : ℕ → ℕ) (l : List ℕ) (i v : ℕ) → i < length l → ((k : ℕ) → k < i → getD l k 0 ≡ f k) → v ≡ f i

@@ -25,11 +25,3 @@ pub fn single(on: bool, k: usize) -> u64
 {
     if on { 1 << k } else { 0 }
 }
-
-// What item k adds where the mask has it.
-pub fn gained(p: u32, mask: u32, k: usize) -> u32
-    requires { ⌜ k < 32 ⌝ }
-    ensures { λ q. ⌜ q ≡ cond (has mask k) p 0 ⌝ }
-{
-    if (mask >> k) % 2 == 1 { p } else { 0 }
-}

@@ -8,7 +8,6 @@ ghost use Rattle.rules.specs.Limits.{capabilityWith, placeWith};
 use crate::bits::has64;
 use crate::columns::bump;
 use crate::columns::founded_roles;
-use crate::columns::lent_authority;
 use crate::columns::places;
 use crate::columns::role_permissions;
 use crate::limits::Limits;
@@ -18,6 +17,7 @@ use crate::limits::is_origin;
 use crate::limits::is_role_zero;
 use crate::limits::limits_of;
 use crate::limits::number_of;
+use masks::join;
 use model::Capability;
 use model::Register;
 
@@ -130,7 +130,7 @@ pub fn capabilities_keep(r: Register, bound: usize) -> bool
         let k = number_of(o);
         let role = roles[(k % 32) as usize];
         let p = r.capabilities[k as usize];
-        let lent = lent_authority(&permissions, p.lent);
+        let lent = join(&permissions, p.lent);
         let u = limits_of(o, count, role, p, p.permissions | lent);
         let kept = keeps_place(enrolled, founded, count, i, u, table[i], c);
         if !kept {

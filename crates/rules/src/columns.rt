@@ -2,11 +2,9 @@
 ghost use mathlib.Core.Path.{_≡_};
 ghost use Prim.Native.Nat.{ℕ, _<_, _≤_};
 ghost use lib.ListN.{getD};
-ghost use Rattle.masks.specs.Masks.{joined};
 ghost use Rattle.model.specs.State.{roleAt};
 ghost use Rattle.rules.specs.Columns.{masked, isFounded, inDomain, bumped};
 ghost use Rattle.rules.specs.Limits.{numberOf};
-use crate::bits::gained;
 use crate::bits::single;
 use model::Origin;
 use model::Role;
@@ -37,33 +35,6 @@ pub fn founded_roles(roles: [Role; 32]) -> u64
         i = i + 1;
     }
     mask
-}
-
-// The permissions of the roles of any mask; permissions has those of each role.
-pub fn all_lent(permissions: &[u32; 32], mask: u32) -> u32
-    ensures { λ q. ⌜ q ≡ joined (λ k. getD (now (permissions .entry)) k 0) mask 32 ⌝ }
-{
-    let mut sum: u32 = 0;
-    let mut i: usize = 0;
-    while i < 32 {
-        sum = sum | gained(permissions[i], mask, i);
-        i = i + 1;
-    }
-    sum
-}
-
-// The same, quickly where at most one role is lent, as in every register that keeps the rules.
-pub fn lent_authority(permissions: &[u32; 32], mask: u32) -> u32
-    ensures { λ q. ⌜ q ≡ joined (λ k. getD (now (permissions .entry)) k 0) mask 32 ⌝ }
-{
-    let k = (u32::trailing_zeros(mask) % 32) as usize;
-    if mask == 0 {
-        0
-    } else if mask == 1 << k {
-        permissions[k]
-    } else {
-        all_lent(permissions, mask)
-    }
 }
 
 // The users of each domain.

@@ -32,9 +32,10 @@ use Rattle.slots.specs.Slots.{Places, look, lifted}
 use Rattle.slots.specs.Terms.{slotTerms, namedIn}
 use Rattle.slots.proofs.CheckLaws.{in-range, raised-below}
 use Rattle.slots.proofs.SlotLaws.{put-same, put-session, lift-settle, settle-ranged}
+use Rattle.slots.proofs.SettleLaws.{settle-same}
 use Rattle.slots.proofs.TermLaws.{Column, lent-column}
 use Rattle.sessions.specs.Origins.{usedIn, OnPlaced, NamedPlaced}
-use Rattle.sessions.specs.Sessions.{closeGuards, closeDecision, checkGuards, permitTestsIn, permitsIn, checkDecision, openGuards, newSessionIn, openDecision}
+use Rattle.sessions.specs.Sessions.{closeGuards, closeDecision, checkGuards, permitTestsIn, permitsIn, checkAnswer, checkDecision, openGuards, newSessionIn, openDecision}
 
 -- ---- close
 
@@ -56,20 +57,29 @@ unfolding permits slotTerms terms roleAuthority authority
 origin-permits r p permissions (ofRole k) user q h l e = rw (e, mod-eq-of-lt l)
 origin-permits r p permissions (ofCapability n) user q h l e = rw (e, mod-eq-of-lt l, lent-column permissions (r .roles) _ h)
 
-pub check-commit : (r : Register) (p : Places) (permissions : List ℕ) (s q : ℕ) → T (wellFormed r) → Column permissions (r .roles)
+-- the answer to a check, by the session and what it is on, read from the register
+pub check-answered : (r : Register) (p : Places) (permissions : List ℕ) (s q : ℕ) → T (wellFormed r) → Column permissions (r .roles)
     → p .session ≡ s % 64 → OnPlaced p ((sessionAt (r .sessions) (s % 64)) .on)
-    → lifted r p (checkDecision (look r p) permissions s q) ≡ settled r (check s q)
-unfolding checkDecision permitsIn settled ruling checkRuling
-check-commit r p permissions s q w h e o =
-    lift-settle r p (checkGuards ((look r p) .session .active) s q) _ _
+    → record { answer = checkAnswer (r .clock) (sessionAt (r .sessions) (p .session)) (roleAt (r .roles) (p .role)) (capabilityAt (r .capabilities) (p .capability)) permissions s q; after = r }
+    ≡ settled r (check s q)
+unfolding checkAnswer permitsIn settled ruling checkRuling
+check-answered r p permissions s q w h e o =
+    settle-same r (checkGuards ((sessionAt (r .sessions) (p .session)) .active) s q) _
     ∙ settle-ranged r 2 (isSession s ∷ isPermission q ∷ []) _ _ _ _ _ _
     (λ t. rw (e, in-range s 64 (each→ (isSession s ∷ isPermission q ∷ []) t .0)))
     (λ g.
     let i : s % 64 ≡ s = in-range s 64 (g .0 .0) in (
       rw (e, i) (ap (λ (b : Bool). cond b 1 0)
           (origin-permits r p permissions ((sessionAt (r .sessions) s) .on) _ q h (formed→ r w .sessions s (ltb→lt s 64 (g .0 .0)) (passed 3 ((checkRuling r s q) .guards) g .0) .on-range) (rw i at o))),
-      put-same r p,
+      refl,
     ))
+
+pub check-commit : (r : Register) (p : Places) (permissions : List ℕ) (s q : ℕ) → T (wellFormed r) → Column permissions (r .roles)
+    → p .session ≡ s % 64 → OnPlaced p ((sessionAt (r .sessions) (s % 64)) .on)
+    → lifted r p (checkDecision (look r p) permissions s q) ≡ settled r (check s q)
+check-commit r p permissions s q w h e o =
+    ap (λ (z : Register). record { answer = (checkDecision (look r p) permissions s q) .answer; after = z }) (put-same r p)
+    ∙ check-answered r p permissions s q w h e o
 
 -- ---- open
 

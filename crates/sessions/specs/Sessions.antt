@@ -14,9 +14,10 @@ use Rattle.model.specs.declared.Capability.{Capability}
 use Rattle.model.specs.declared.Session.{Session}
 use Rattle.model.specs.State.{blankSession, inContext, admitted}
 use Rattle.model.specs.Rules.{isSession, isUser, isPermission, isOrigin}
-use Rattle.model.specs.Rulings.{Guard, _unless_, _when_}
+use Rattle.model.specs.Rulings.{Outcome, Guard, _unless_, _when_}
 use Rattle.model.specs.Requests.{namedOrigin}
 use Rattle.model.specs.Sessions.{newSession}
+use Rattle.model.proofs.Settling.{verdict}
 use Rattle.slots.specs.declared.Slots.{Slots}
 use Rattle.slots.specs.Slots.{Ruled, settleSlots, withSessionSlots}
 use Rattle.slots.specs.Terms.{slotTerms, namedIn}
@@ -54,12 +55,17 @@ permitTestsIn o x c tick lent user q =
     ∷ has ((slotTerms o x c lent) .grants) q
     ∷ []
 
-unfoldable pub permitsIn : Slots → (lent permission : ℕ) → Bool
-permitsIn v lent q = each (permitTestsIn (v .session .on) (v .role) (v .capability) (v .clock) lent (v .session .user) q)
+unfoldable pub permitsIn : (tick : ℕ) → Session → Role → Capability → (lent permission : ℕ) → Bool
+permitsIn tick s x c lent q = each (permitTestsIn (s .on) x c tick lent (s .user) q)
 
-unfoldable pub checkDecision : Slots → List ℕ → (s permission : ℕ) → Ruled
-checkDecision v permissions s q =
-    settleSlots v (checkGuards (v .session .active) s q) (cond (permitsIn v (joined (λ k. getD permissions k 0) (v .capability .lent) 32) q) 1 0) v
+-- the answer alone, since check changes nothing: s is the session, x and c the role and the capability that it may be on
+unfoldable pub checkAnswer : (tick : ℕ) → Session → Role → Capability → List ℕ → (n permission : ℕ) → Outcome
+checkAnswer tick s x c permissions n q =
+    verdict (checkGuards (s .active) n q) (cond (permitsIn tick s x c (joined (λ k. getD permissions k 0) (c .lent) 32) q) 1 0)
+
+abbrev pub checkDecision : Slots → List ℕ → (n permission : ℕ) → Ruled
+checkDecision v permissions n q =
+    record { answer = checkAnswer (v .clock) (v .session) (v .role) (v .capability) permissions n q; slots = v }
 
 -- ---- open
 

@@ -3,15 +3,19 @@ mod origins;
 
 ghost use mathlib.Core.Path.{_≡_};
 ghost use mathlib.Core.Bool.{cond};
+ghost use Rattle.model.specs.Requests.{outcomeOf};
 ghost use Rattle.slots.specs.Checks.{checked, firstNumber};
 ghost use Rattle.slots.specs.Slots.{ruledOf};
-ghost use Rattle.sessions.specs.Sessions.{closeGuards, closeDecision, checkGuards, permitsIn, checkDecision, admissionGuards, openGuards, newSessionIn, openDecision};
+ghost use Rattle.sessions.specs.Sessions.{closeGuards, closeDecision, checkGuards, permitsIn, checkAnswer, checkDecision, admissionGuards, openGuards, newSessionIn, openDecision};
+use masks::join;
 use masks::member;
 use model::Answer;
+use model::Capability;
 use model::Context;
 use model::Named;
 use model::Origin;
 use model::Refusal;
+use model::Role;
 use model::Session;
 use origins::admits;
 use origins::alive_in;
@@ -26,7 +30,6 @@ use slots::Slots;
 use slots::checks::Check;
 use slots::checks::first;
 use slots::terms::allowance_of;
-use slots::terms::lent;
 use slots::terms::origin_named;
 
 // ---- close
@@ -77,16 +80,13 @@ fn check_check(active: bool, session: u32, permission: u32) -> Check
 }
 
 // What check answers yes by; the lent roles of the capability have the permissions `lent`.
-fn permitted(v: Slots, lent: u32, permission: u32) -> bool
-    ensures { λ q. ⌜ q ≡ permitsIn v lent permission ⌝ }
+fn permitted(tick: u32, s: Session, x: Role, c: Capability, lent: u32, permission: u32) -> bool
+    ensures { λ q. ⌜ q ≡ permitsIn tick s x c lent permission ⌝ }
 {
-    let s = v.session;
     let o = s.on;
-    let x = v.role;
-    let c = v.capability;
     let t = allowance_of(o, x, c, lent);
     let entitled = member_in(o, x, c, s.user as u32);
-    let alive = alive_in(o, c, v.clock);
+    let alive = alive_in(o, c, tick);
     let granted = member(t.grants as u64, permission);
     entitled & !t.revoked & alive & granted
 }
@@ -98,25 +98,37 @@ fn yes_number(yes: bool) -> u32
     if yes { 1 } else { 0 }
 }
 
+// The answer to a check, by its session and the role and the capability that this may be on. Nothing changes, so that a caller who
+// holds the register needs nothing else.
+pub fn answer_check(
+    tick: u32,
+    s: Session,
+    x: Role,
+    c: Capability,
+    permissions: &[u32; 32],
+    session: u32,
+    permission: u32,
+) -> Answer
+    ensures { λ q. ⌜ outcomeOf q ≡ checkAnswer tick s x c (now (permissions .entry)) session permission ⌝ }
+{
+    let k = check_check(s.active, session, permission);
+    match k {
+        Check::Refuse(why) => Answer::Refused(why),
+        Check::Pass => {
+            let yes = permitted(tick, s, x, c, join(permissions, c.lent), permission);
+            Answer::Value(yes_number(yes))
+        }
+    }
+}
+
 pub fn decide_check(v: Slots, permissions: &[u32; 32], session: u32, permission: u32) -> Decision
     ensures { λ q. ⌜ ruledOf q ≡ checkDecision v (now (permissions .entry)) session permission ⌝ }
 {
     let s = v.session;
-    let k = check_check(s.active, session, permission);
-    match k {
-        Check::Refuse(why) => Decision {
-            answer: Answer::Refused(why),
-            slots: v,
-        },
-        Check::Pass => {
-            let c = v.capability;
-            let yes = permitted(v, lent(permissions, c.lent), permission);
-            Decision {
-                answer: Answer::Value(yes_number(yes)),
-                slots: v,
-            }
-        }
-    }
+    let x = v.role;
+    let c = v.capability;
+    let answer = answer_check(v.clock, s, x, c, permissions, session, permission);
+    Decision { answer, slots: v }
 }
 
 // ---- open

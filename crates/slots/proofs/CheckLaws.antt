@@ -1,16 +1,16 @@
 -- Checks: the first number of a list of guards, and what a settled call comes to by it.
-use mathlib.Core.Path.{_≡_, refl, sym, ap, ap₂, _∙_, subst}
-use mathlib.Core.Bool.{Bool, true, false, cond, not, _&&_}
+use mathlib.Core.Path.{_≡_, refl, sym, ap, ap₂, _∙_}
+use mathlib.Core.Bool.{Bool, true, false, cond, not}
 use mathlib.Core.List.{List, [], _∷_}
-use Prim.Native.Nat.{ℕ, zero, suc, _%_, _≤_, _<_}
+use Prim.Native.Nat.{ℕ, suc, _%_, _<_}
 use native.Mathlib.Nat.{mod-eq-of-lt}
 use native.Mathlib.Omega.{arith}
-use lib.Dec.{T, ltb, leb, ltb→lt, lit<}
+use lib.Dec.{T, ltb, ltb→lt, lit<}
 use Rattle.masks.specs.Tests.{each}
-use Rattle.masks.proofs.Truth.{T→true, T→false, and-l, and-r}
+use Rattle.masks.proofs.Truth.{T→true, and-l, and-r}
 use Rattle.model.specs.declared.Refusal.{Refusal}
 use Rattle.model.specs.declared.Refusal.the-variants.{Malformed, Range, Missing, Unchanged, Domain, Forbidden, Revoked, Expired, Context, Exhausted, Exceeds, Full, Past, Image, Broken, Room}
-use Rattle.model.specs.Rulings.{Outcome, value, refused, Guard, _unless_, applies, number}
+use Rattle.model.specs.Rulings.{value, refused, Guard, _unless_, applies, number}
 use Rattle.model.specs.Requests.{refusalNumber}
 use Rattle.slots.specs.declared.checks.Check.{Check}
 use Rattle.slots.specs.declared.checks.Check.the-variants.{Pass, Refuse}

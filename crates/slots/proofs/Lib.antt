@@ -1,4 +1,5 @@
--- Laws of checks, of elements put back, and of terms read from elements.
+-- Laws of checks, of elements put back, of terms read from elements, and of what a checked call comes to.
 pub mod CheckLaws
 pub mod SlotLaws
 pub mod TermLaws
+pub mod SettleLaws

@@ -7,16 +7,16 @@ use lib.Dec.{T}
 use lib.ListN.{set}
 use lib.Seq.{set-getD}
 use Rattle.masks.specs.Tests.{each}
-use Rattle.masks.proofs.Truth.{Each, each→, not-not}
+use Rattle.masks.proofs.Truth.{each→}
 use Rattle.model.specs.declared.Role.{Role}
 use Rattle.model.specs.declared.Capability.{Capability}
 use Rattle.model.specs.declared.Session.{Session}
 use Rattle.model.specs.declared.Register.{Register}
 use Rattle.model.specs.Setters.{withClock, withUsers, withRoles, withCapabilities, withCount, withSessions}
-use Rattle.model.specs.Rulings.{Outcome, value, refused, Effect, Guard, _unless_, _when_, applies, number, settle}
-use Rattle.model.proofs.Settling.{Clear, Settled, accepted, declined, settle-cases}
+use Rattle.model.specs.Rulings.{value, refused, Effect, Guard, _unless_, _when_, applies, number, settle}
+use Rattle.model.proofs.Settling.{Clear}
 use Rattle.slots.specs.declared.Slots.{Slots}
-use Rattle.slots.specs.Slots.{Places, look, put, Ruled, settleSlots, lifted, withClockSlot, withUserSlot, withRoleSlot, withCapabilitySlot, withCreatedSlots, withSessionSlots}
+use Rattle.slots.specs.Slots.{Places, look, put, settleSlots, lifted, withClockSlot, withUserSlot, withRoleSlot, withCapabilitySlot, withCreatedSlots, withSessionSlots}
 
 -- ---- elements put back
 

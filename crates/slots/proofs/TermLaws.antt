@@ -1,19 +1,16 @@
 -- The terms read from elements are those of the register.
-use mathlib.Core.Path.{_≡_, refl, sym, ap, ap₂, _∙_}
-use mathlib.Core.Bool.{Bool, cond}
+use mathlib.Core.Path.{_≡_, ap}
 use mathlib.Core.List.{List}
-use Prim.Native.Nat.{ℕ, zero, suc, _+_, _%_, _^_, _<_}
+use Prim.Native.Nat.{ℕ, _<_}
 use native.Mathlib.Nat.{mod-eq-of-lt}
-use native.Mathlib.Numerals.{add-one}
-use native.Mathlib.Omega.{arith}
 use lib.Bits.{bitOr}
 use lib.ListN.{getD}
-use Rattle.masks.specs.Masks.{has, joined}
-use Rattle.model.specs.declared.Origin.{Origin}
+use Rattle.masks.specs.Masks.{joined}
+use Rattle.masks.proofs.JoinLaws.{joined-same}
 use Rattle.model.specs.declared.Origin.the-variants.{Role as ofRole, Capability as ofCapability}
 use Rattle.model.specs.declared.Role.{Role}
 use Rattle.model.specs.declared.Capability.{Capability}
-use Rattle.model.specs.State.{Terms, terms, termsWith, authority, lentAuthority, roleAuthority, roleAt, capabilityAt}
+use Rattle.model.specs.State.{terms, termsWith, authority, lentAuthority, roleAuthority, roleAt, capabilityAt}
 use Rattle.slots.specs.Terms.{slotTerms}
 
 -- ---- the column of the roles' permissions
@@ -22,20 +19,9 @@ use Rattle.slots.specs.Terms.{slotTerms}
 abbrev pub Column : List ℕ → List Role → Type 0
 Column permissions roles = (k : ℕ) → k < 32 → getD permissions k 0 ≡ roleAuthority roles k
 
-joined-below : (f g : ℕ → ℕ) (m n : ℕ) → ((k : ℕ) → k < n → f k ≡ g k) → joined f m n ≡ joined g m n
-unfolding joined
-joined-below f g m zero h = refl
-joined-below f g m (suc n) h =
-    ap₂ (λ (x y : ℕ). bitOr x (cond (has m n) y 0)) (joined-below f g m n (λ k l. h k (omega arith))) (h n (omega arith))
-
 pub lent-column : (permissions : List ℕ) (roles : List Role) (m : ℕ) → Column permissions roles → joined (λ k. getD permissions k 0) m 32 ≡ lentAuthority roles m
 unfolding lentAuthority
-lent-column permissions roles m h = joined-below (λ k. getD permissions k 0) (roleAuthority roles) m 32 h
-
--- one item more
-pub joined-more : (f : ℕ → ℕ) (m n : ℕ) {x y : ℕ} → x ≡ joined f m n → y ≡ bitOr x (cond (has m n) (f n) 0) → y ≡ joined f m (n + 1)
-unfolding joined
-joined-more f m n p q = rw (add-one) (q ∙ ap (λ (z : ℕ). bitOr z (cond (has m n) (f n) 0)) p)
+lent-column permissions roles m h = joined-same (λ k. getD permissions k 0) (roleAuthority roles) m 32 h
 
 -- ---- terms
 

@@ -1,12 +1,7 @@
 // What an origin allows, a role or a capability alike.
 ghost use mathlib.Core.Path.{_≡_};
-ghost use mathlib.Core.Bool.{cond};
-ghost use Prim.Native.Nat.{_<_};
-ghost use lib.ListN.{getD};
-ghost use Rattle.masks.specs.Masks.{has, joined};
 ghost use Rattle.slots.specs.Terms.{termsIn, slotTerms, namedIn};
 use masks::bit32;
-use masks::member;
 use model::Capability;
 use model::Named;
 use model::Origin;
@@ -24,26 +19,6 @@ pub struct Allowance {
     pub creation_limit: u16,
     pub hop_limit: u16,
     pub revoked: bool,
-}
-
-// What a role with the permissions p adds where the mask has item k.
-pub fn gained(p: u32, mask: u32, k: u32) -> u32
-    ensures { λ q. ⌜ q ≡ cond (has mask k) p 0 ⌝ }
-{
-    if member(mask as u64, k) { p } else { 0 }
-}
-
-// The permissions of the roles of a mask, joined; the column has those of each role.
-pub fn lent(permissions: &[u32; 32], mask: u32) -> u32
-    ensures { λ q. ⌜ q ≡ joined (λ k. getD (now (permissions .entry)) k 0) mask 32 ⌝ }
-{
-    let mut sum: u32 = 0;
-    let mut i: usize = 0;
-    while i < 32 {
-        sum = sum | gained(permissions[i], mask, i as u32);
-        i = i + 1;
-    }
-    sum
 }
 
 // The terms of a role x, or of a capability c whose lent roles have the permissions `lent`.

@@ -1,3 +1,5 @@
+-- `masks::bit32` meets its contract.
+-- Assumes nothing.
 use borrow.Author.Needs.{needs}
 use Rattle.masks.proofs.MaskLaws.{one-shl}
 use Rattle.masks.proofs.bit32.Statement.{statement}

@@ -1,3 +1,5 @@
+-- `masks::bit64` meets its contract.
+-- Assumes nothing.
 use borrow.Author.Needs.{needs}
 use Rattle.masks.proofs.MaskLaws.{one-shl}
 use Rattle.masks.proofs.bit64.Statement.{statement}

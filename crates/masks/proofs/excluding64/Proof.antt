@@ -1,3 +1,5 @@
+-- `masks::excluding64` meets its contract.
+-- Assumes nothing.
 use borrow.Author.Needs.{needs}
 use mathlib.Core.Path.{ap}
 use lib.Bits.{bitXor}

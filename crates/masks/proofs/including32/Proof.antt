@@ -1,3 +1,5 @@
+-- `masks::including32` meets its contract.
+-- Assumes nothing.
 use borrow.Author.Needs.{needs}
 use mathlib.Core.Path.{ap}
 use lib.Bits.{bitOr}

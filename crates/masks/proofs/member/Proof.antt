@@ -1,3 +1,5 @@
+-- `masks::member` meets its contract.
+-- Assumes nothing.
 use borrow.Author.Needs.{needs}
 use mathlib.Core.Path.{sym}
 use Rattle.masks.specs.Masks.{has}

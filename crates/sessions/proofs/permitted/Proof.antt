@@ -10,11 +10,10 @@ use Rattle.sessions.proofs.permitted.Tie as tie
 returns : tie.Need-returns
 unfolding permitsIn
 returns c =
-    let a = c .before .before .before .before .before .before .before .before .before .before .args in
-    let v = a .v in
+    let a = c .before .before .before .before .before .before .before .args in
     let e = c .before .before .before .before .before .before .allowance-of .ensures in
     rw (c .before .before .before .before .member-in .ensures, c .before .before .before .alive-in .ensures, c .before .member .ensures, ap (λ (t : Terms). t .revoked) e, ap (λ (t : Terms). t .grants) e)
-    (conj-each true (permitTestsIn (v .session .on) (v .role) (v .capability) (v .clock) (a .lent) (v .session .user) (a .permission)))
+    (conj-each true (permitTestsIn (a .s .on) (a .x) (a .c) (a .tick) (a .lent) (a .s .user) (a .permission)))
 
 pub permitted-spec : {M : Type 1} → statement M
 permitted-spec =

@@ -13,7 +13,7 @@ returns c =
     let p = x .before .before .before .before in
     let s = p .before .before in
     same-settled (s .args .t1) (s .pre) (p .before .origins-of .result) (p .permissions-of .result) (p .before .origins-of .ensures) (p .permissions-of .ensures) (s .args .m) (s .args .n) _ _ _ _ _ _ _ _
-    (x .root-of .ensures .1) (y .root-of2 .ensures .1) refl refl refl refl (l .lent .ensures) (c .before .lent2 .ensures) (c .compare .ensures)
+    (x .root-of .ensures .1) (y .root-of2 .ensures .1) refl refl refl refl (l .join .ensures) (c .before .join2 .ensures) (c .compare .ensures)
 
 pub same-core-spec : {M : Type 1} → statement M
 same-core-spec =

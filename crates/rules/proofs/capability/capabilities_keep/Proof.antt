@@ -82,8 +82,8 @@ found c few =
     let permissions = c .before .before .before .before .before .before .before .before .before .before .before .before .before .before .before in
     let r = c .before .before .before .before .before .before .before .before .before .before .before .before .before .before .before .before .before .args .t1 in
     c .keeps-place .ensures
-    ∙ place-agrees (r .enrolled) (r .roles) (r .count) (r .capabilities) (l .i) (k .number-of .result) (founded .founded-roles .result) (lent .lent-authority .result) (getD table (l .i) 0)
-    (λ j. getD (permissions .role-permissions .result) j 0) (u .limits-of .result) (k .number-of .ensures) (founded .founded-roles .ensures) (permissions .role-permissions .ensures) (lent .lent-authority .ensures) (u .limits-of .ensures)
+    ∙ place-agrees (r .enrolled) (r .roles) (r .count) (r .capabilities) (l .i) (k .number-of .result) (founded .founded-roles .result) (lent .join .result) (getD table (l .i) 0)
+    (λ j. getD (permissions .role-permissions .result) j 0) (u .limits-of .result) (k .number-of .ensures) (founded .founded-roles .ensures) (permissions .role-permissions .ensures) (lent .join .ensures) (u .limits-of .ensures)
     (ap (λ t. getD t (l .i) 0) (l .inv .2 few) ∙ tally-at (r .capabilities) (l .i) (r .count) (omega (arith, c .before .before .before .before .before .before .before .before .before .before .before .before .before .before .before .before .before .pre)))
 
 returns : tie.Need-returns Inv-loop μ-loop Inv-loop2 μ-loop2
