@@ -9,7 +9,7 @@ ghost use Rattle.model.specs.Rules.{wellFormed};
 ghost use Rattle.model.specs.Rulings.{value, refused};
 ghost use Rattle.model.specs.Lists.{run};
 ghost use Rattle.batch.specs.Batch.{callsOf, outcomesOf, paddedAnswers};
-use calls::apply::apply_trusted;
+use calls::apply::order_of;
 use calls::one::decide;
 use model::Answer;
 use model::Refusal;
@@ -22,6 +22,8 @@ use places::parent_place;
 use places::role_place;
 use places::task_of;
 use revocation::columns::permissions_of;
+use revocation::orders::Order;
+use revocation::sweeps::sweep_all;
 use rules::well_formed;
 use slots::Slots;
 
@@ -75,14 +77,15 @@ fn refusals(n: usize) -> [Told; 64]
 
 // The first n requests, on a register that is known to be well-formed. The elements that a request names are read, decided and put
 // back in the loop itself, which is long for that reason: a function for it would copy the register at each call. `permissions` is
-// what each role grants, and is kept in step with the register. The calls over the whole tree go by value.
+// what each role grants, and is kept in step with the register. Only a sweep goes by value.
 fn apply_formed(start: Register, items: [Item; 64], n: usize) -> Played
     requires { ⌜ T (wellFormed start) ⌝ }
     requires { ⌜ n ≤ 64 ⌝ }
     ensures { λ z. ⌜ (z .register ≡ run start (callsOf n items)) × (outcomesOf (z .answers) ≡ paddedAnswers start n items) ⌝ }
 {
     let mut r = start;
-    let mut permissions = permissions_of(start);
+    let roles = start.roles;
+    let mut permissions = permissions_of(roles);
     let mut answers = no_answers();
     let mut i: usize = 0;
     while i < n {
@@ -91,55 +94,67 @@ fn apply_formed(start: Register, items: [Item; 64], n: usize) -> Played
         let item = items[at];
         let request = item.request;
         let task = task_of(request);
-        if let Task::One(q) = task {
-            let m = names_of(q);
-            let follow = m.follow;
-            let un = (m.user % 64) as usize;
-            let sn = (m.session % 64) as usize;
-            let session = r.sessions[sn];
-            let on = session.on;
-            let cn = (capability_place(follow, m.capability, on, r.count) % 256) as usize;
-            let capability = r.capabilities[cn];
-            let origin = capability.origin;
-            let rn = (role_place(follow, m.role, on, origin) % 32) as usize;
-            let pn = (parent_place(follow, m.parent, origin) % 256) as usize;
-            let role = r.roles[rn];
-            let parent = r.capabilities[pn];
-            let v = Slots {
-                clock: r.clock,
-                enrolled: r.enrolled,
-                count: r.count,
-                domain: r.domains[un],
-                role: role,
-                parent: parent,
-                capability: capability,
-                session: session,
-            };
-            let d = decide(v, &permissions, q);
-            let w = d.slots;
-            r.clock = w.clock;
-            r.enrolled = w.enrolled;
-            r.count = w.count;
-            r.domains[un] = w.domain;
-            let x = w.role;
-            r.roles[rn] = x;
-            permissions[rn] = x.permissions;
-            let y = w.parent;
-            r.capabilities[pn] = y;
-            let z = w.capability;
-            r.capabilities[cn] = z;
-            let s = w.session;
-            r.sessions[sn] = s;
-            let decided = d.answer;
-            answers[at] = Told { answer: decided };
-        } else {
-            let reply = apply_trusted(r, request);
-            let next = reply.register;
-            r = next;
-            let column = permissions_of(r);
-            permissions = column;
-            let answer = reply.answer;
-            answers[at] = Told { answer: answer };
+        match task {
+            Task::One(q) => {
+                let m = names_of(q);
+                let follow = m.follow;
+                let un = (m.user % 64) as usize;
+                let sn = (m.session % 64) as usize;
+                let session = r.sessions[sn];
+                let on = session.on;
+                let cn = (capability_place(follow, m.capability, on, r.count) % 256) as usize;
+                let capability = r.capabilities[cn];
+                let origin = capability.origin;
+                let rn = (role_place(follow, m.role, on, origin) % 32) as usize;
+                let pn = (parent_place(follow, m.parent, origin) % 256) as usize;
+                let role = r.roles[rn];
+                let parent = r.capabilities[pn];
+                let v = Slots {
+                    clock: r.clock,
+                    enrolled: r.enrolled,
+                    count: r.count,
+                    domain: r.domains[un],
+                    role: role,
+                    parent: parent,
+                    capability: capability,
+                    session: session,
+                };
+                let d = decide(v, &permissions, q);
+                let w = d.slots;
+                r.clock = w.clock;
+                r.enrolled = w.enrolled;
+                r.count = w.count;
+                r.domains[un] = w.domain;
+                let x = w.role;
+                r.roles[rn] = x;
+                permissions[rn] = x.permissions;
+                let y = w.parent;
+                r.capabilities[pn] = y;
+                let z = w.capability;
+                r.capabilities[cn] = z;
+                let s = w.session;
+                r.sessions[sn] = s;
+                let decided = d.answer;
+                answers[at] = Told { answer: decided };
+            }
+            Task::Tree(t) => {
+                let order = order_of(r, t);
+                match order {
+                    Order::Answered(answer) => {
+                        answers[at] = Told { answer: answer };
+                    }
+                    Order::Swept(s) => {
+                        let reply = sweep_all(r, s);
+                        let next = reply.register;
+                        r = next;
+                        let roles = r.roles;
+                        let column = permissions_of(roles);
+                        permissions = column;
+                        let answer = reply.answer;
+                        answers[at] = Told { answer: answer };
+                    }
+                }
+            }
         }
     }
     Played {

@@ -6,7 +6,9 @@ use lib.Dec.{T}
 use Rattle.model.specs.Calls.{Call, withdraw, amend, revoke, same}
 use Rattle.model.specs.Requests.{callOf, changeOf}
 use Rattle.places.specs.declared.Task.{Task}
-use Rattle.places.specs.declared.Task.the-variants.{One, Withdraw as withdrawing, Amend as amending, Revoke as revoking, Same as comparing}
+use Rattle.places.specs.declared.Task.the-variants.{One, Tree}
+use Rattle.places.specs.declared.TreeCall.{TreeCall}
+use Rattle.places.specs.declared.TreeCall.the-variants.{Withdraw as withdrawing, Amend as amending, Revoke as revoking, Same as comparing}
 use Rattle.administration.specs.Administration.{enrolDecision, foundDecision, grantDecision, appointDecision, dismissDecision, clockDecision}
 use Rattle.delegation.specs.Creation.{createDecision}
 use Rattle.delegation.specs.Delegation.{allowDecision, lendDecision, handDecision}
@@ -62,18 +64,19 @@ decideOf v column (Same first second) = elsewhere v
 
 -- ---- tasks
 
+-- the call over the whole tree
+abbrev pub treeCall : TreeCall → Call
+treeCall (withdrawing role permission) = withdraw role permission
+treeCall (amending user capability change) = amend user capability (changeOf change)
+treeCall (revoking user capability) = revoke user capability
+treeCall (comparing first second) = same first second
+
 -- the call that a task stands for
 abbrev pub taskCall : Task → Call
 taskCall (One q) = callOf q
-taskCall (withdrawing role permission) = withdraw role permission
-taskCall (amending user capability change) = amend user capability (changeOf change)
-taskCall (revoking user capability) = revoke user capability
-taskCall (comparing first second) = same first second
+taskCall (Tree t) = treeCall t
 
 -- a single request changes only elements that it names
 abbrev pub OneFits : Task → Type 0
 OneFits (One q) = T (isOne q)
-OneFits (withdrawing role permission) = Unit {0}
-OneFits (amending user capability change) = Unit {0}
-OneFits (revoking user capability) = Unit {0}
-OneFits (comparing first second) = Unit {0}
+OneFits (Tree t) = Unit {0}

@@ -4,6 +4,8 @@ ghost use lib.Dec.{T};
 ghost use Rattle.model.specs.Rules.{wellFormed};
 ghost use Rattle.model.specs.Calls.{settled, step};
 ghost use Rattle.model.specs.Requests.{effectOf, callOf};
+ghost use Rattle.revocation.specs.Sweeping.{orderEffect};
+ghost use Rattle.calls.specs.Decide.{treeCall};
 use crate::one::apply_one;
 use model::Answer;
 use model::Refusal;
@@ -11,13 +13,44 @@ use model::Register;
 use model::Reply;
 use model::Request;
 use places::Task;
+use places::TreeCall;
 use places::task_of;
-use revocation::amending::amend_core;
+use revocation::amending::amend_order;
 use revocation::columns::permissions_of;
-use revocation::comparing::same_core;
-use revocation::revoking::revoke_core;
-use revocation::withdrawing::withdraw_core;
+use revocation::comparing::same_order;
+use revocation::orders::Order;
+use revocation::revoking::revoke_order;
+use revocation::sweeps::sweep_all;
+use revocation::withdrawing::withdraw_order;
 use rules::well_formed;
+
+// What a call over the whole tree comes to, on a register that is known to be well-formed: nothing changes yet.
+pub fn order_of(r: Register, t: TreeCall) -> Order
+    requires { ⌜ T (wellFormed r) ⌝ }
+    ensures { λ z. ⌜ orderEffect r z ≡ settled r (treeCall t) ⌝ }
+{
+    match t {
+        TreeCall::Withdraw(role, permission) => withdraw_order(r, role, permission),
+        TreeCall::Amend(user, number, change) => amend_order(r, user, number, change),
+        TreeCall::Revoke(user, number) => revoke_order(r, user, number),
+        TreeCall::Same(m, n) => same_order(r, m, n),
+    }
+}
+
+// A call over the whole tree, by value.
+fn apply_tree(r: Register, t: TreeCall) -> Reply
+    requires { ⌜ T (wellFormed r) ⌝ }
+    ensures { λ z. ⌜ effectOf z ≡ settled r (treeCall t) ⌝ }
+{
+    let order = order_of(r, t);
+    match order {
+        Order::Answered(answer) => Reply {
+            answer: answer,
+            register: r,
+        },
+        Order::Swept(s) => sweep_all(r, s),
+    }
+}
 
 // The call on a register that is known to be well-formed.
 pub fn apply_trusted(r: Register, q: Request) -> Reply
@@ -27,13 +60,11 @@ pub fn apply_trusted(r: Register, q: Request) -> Reply
     let task = task_of(q);
     match task {
         Task::One(one) => {
-            let permissions = permissions_of(r);
+            let roles = r.roles;
+            let permissions = permissions_of(roles);
             apply_one(r, &permissions, one)
         }
-        Task::Withdraw(role, permission) => withdraw_core(r, role, permission),
-        Task::Amend(user, number, change) => amend_core(r, user, number, change),
-        Task::Revoke(user, number) => revoke_core(r, user, number),
-        Task::Same(m, n) => same_core(r, m, n),
+        Task::Tree(t) => apply_tree(r, t),
     }
 }
 

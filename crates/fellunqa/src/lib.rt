@@ -86,7 +86,8 @@ fn answer_one(area: &mut [u8], r: Register, q: Request) -> i64
     requires { ⌜ T (wellFormed r) × T (isOne q) ⌝ }
     ensures { λ z. ⌜ (z ≡ returned (performed (length (now (area .entry))) r (callOf q))) × (now (area .exit) ≡ bufferAfter (performed (length (now (area .entry))) r (callOf q)) (now (area .entry))) ⌝ }
 {
-    let permissions = permissions_of(r);
+    let roles = r.roles;
+    let permissions = permissions_of(roles);
     let m = names_of(q);
     let follow = m.follow;
     let un = (m.user % 64) as usize;

@@ -14,13 +14,14 @@ use Rattle.places.specs.declared.Follow.{Follow}
 use Rattle.places.specs.declared.Follow.the-variants.{Nothing, Origin as TheOrigin, Session as TheSession, Count}
 use Rattle.places.specs.declared.Names.{Names}
 use Rattle.places.specs.declared.Task.{Task}
-use Rattle.places.specs.declared.Task.the-variants.{One, Withdraw as withdrawing, Amend as amending, Revoke as revoking, Same as comparing}
+use Rattle.places.specs.declared.Task.the-variants.{One, Tree}
+use Rattle.places.specs.declared.TreeCall.the-variants.{Withdraw as withdrawing, Amend as amending, Revoke as revoking, Same as comparing}
 
 abbrev pub taskOf : Request → Task
 taskOf (Enrol user domain) = One (Enrol user domain)
 taskOf (Found role domain hours places devices) = One (Found role domain hours places devices)
 taskOf (Grant role permission) = One (Grant role permission)
-taskOf (Withdraw role permission) = withdrawing role permission
+taskOf (Withdraw role permission) = Tree (withdrawing role permission)
 taskOf (Appoint user role) = One (Appoint user role)
 taskOf (Dismiss user role) = One (Dismiss user role)
 taskOf (Clock tick) = One (Clock tick)
@@ -30,10 +31,10 @@ taskOf (Lend user capability roles) = One (Lend user capability roles)
 taskOf (Hand user receiver capability) = One (Hand user receiver capability)
 taskOf (Open session user on at) = One (Open session user on at)
 taskOf (Check session permission) = One (Check session permission)
-taskOf (Amend user capability change) = amending user capability change
-taskOf (Revoke user capability) = revoking user capability
+taskOf (Amend user capability change) = Tree (amending user capability change)
+taskOf (Revoke user capability) = Tree (revoking user capability)
 taskOf (Close session) = One (Close session)
-taskOf (Same first second) = comparing first second
+taskOf (Same first second) = Tree (comparing first second)
 
 abbrev pub namesWith : (user role parent capability session : ℕ) → Follow → Names
 namesWith user role parent capability session follow =

@@ -25,23 +25,32 @@ pub struct Names {
     pub follow: Follow,
 }
 
-// A request that changes only elements that it names, or one that reads or changes the whole tree.
-pub enum Task {
-    One(Request),
+// A request that reads or changes the whole creation tree.
+pub enum TreeCall {
     Withdraw(u32, u32),
     Amend(u32, u32, Change),
     Revoke(u32, u32),
     Same(u32, u32),
 }
 
+// A request that changes only elements that it names, or one over the whole tree.
+pub enum Task {
+    One(Request),
+    Tree(TreeCall),
+}
+
 pub fn task_of(q: Request) -> Task
     ensures { λ z. ⌜ z ≡ taskOf q ⌝ }
 {
     match q {
-        Request::Withdraw(role, permission) => Task::Withdraw(role, permission),
-        Request::Amend(user, capability, change) => Task::Amend(user, capability, change),
-        Request::Revoke(user, capability) => Task::Revoke(user, capability),
-        Request::Same(m, n) => Task::Same(m, n),
+        Request::Withdraw(role, permission) => Task::Tree(TreeCall::Withdraw(role, permission)),
+        Request::Amend(user, capability, change) => Task::Tree(TreeCall::Amend(
+            user,
+            capability,
+            change,
+        )),
+        Request::Revoke(user, capability) => Task::Tree(TreeCall::Revoke(user, capability)),
+        Request::Same(m, n) => Task::Tree(TreeCall::Same(m, n)),
         Request::Enrol(_, _) => Task::One(q),
         Request::Found(_, _, _, _, _) => Task::One(q),
         Request::Grant(_, _) => Task::One(q),

@@ -3,7 +3,7 @@ use mathlib.Core.Path.{_≡_, refl, sym, ap, _∙_}
 use mathlib.Core.Bool.{Bool, true, false}
 use mathlib.Core.List.{List, _++_}
 use mathlib.Core.Option.{Option, none, some}
-use Prim.Native.Nat.{ℕ, _+_, _-_, _*_, _≤_, _<_}
+use Prim.Native.Nat.{ℕ, _+_, _-_, _%_, _≤_, _<_}
 use native.Mathlib.Omega.{arith}
 use borrow.Author.Tests.{le-leb, lt-leb}
 use borrow.Rule.Slice.PartMut.{putMid}
@@ -13,13 +13,16 @@ use lib.Seq.{drop-cons}
 use Rattle.buffers.proofs.Parts.{placed, placed-append, tail-back, length-tail}
 use Rattle.masks.specs.Bytes.{front, split}
 use Rattle.masks.proofs.Truth.{T→true, true→T}
+use Rattle.model.specs.declared.Origin.{Origin}
+use Rattle.model.specs.declared.Origin.the-variants.{Role as ofRole, Capability as ofCapability}
 use Rattle.model.specs.declared.Register.{Register}
 use Rattle.model.specs.declared.Request.{Request}
 use Rattle.model.specs.declared.Parsed.{Parsed}
 use Rattle.model.specs.declared.Parsed.the-variants.{Line, NoRequest}
+use Rattle.model.specs.State.{roleAt, capabilityAt, sessionAt}
 use Rattle.model.specs.Rules.{wellFormed}
 use Rattle.model.specs.Rulings.{Outcome, refused, Effect}
-use Rattle.model.specs.Calls.{Call, settled, step}
+use Rattle.model.specs.Calls.{Call, check, settled, step}
 use Rattle.model.specs.Requests.{callOf, parsedCall}
 use Rattle.model.specs.Lines.{parse, printed}
 use Rattle.model.specs.Journal.{requested, lineEffect, unended, transcript, journal}
@@ -29,7 +32,12 @@ use Rattle.model.proofs.Running.{step-keeps}
 use Rattle.text.specs.Parts.{before}
 use Rattle.text.specs.Writing.{written, filled}
 use Rattle.text.proofs.TranscriptLaws.{transcript-line}
-use Rattle.text.proofs.AnswerLaws.{printed-room, printed-most}
+use Rattle.text.proofs.WriteLaws.{written-room, filled-room}
+use Rattle.slots.proofs.TermLaws.{Column}
+use Rattle.places.specs.Requests.{roleHeld, capabilityHeld}
+use Rattle.sessions.specs.Origins.{OnPlaced}
+use Rattle.sessions.specs.Sessions.{checkAnswer}
+use Rattle.sessions.proofs.Commits.{check-answered}
 use Rattle.calls.proofs.Tasks.{broken}
 use Rattle.player.specs.Play.{journalLength, journalBuffer}
 
@@ -49,10 +57,23 @@ pub line-says : (line : List ℕ) (q : Parsed) → parsedCall q ≡ parse line �
 line-says line q e p g = sym e ∙ ap parsedCall g
 
 -- the call of a line, settled on a register that keeps the rules
-pub line-done : (r : Register) (line : List ℕ) (p : Request) (z : Effect) → parse line ≡ some (callOf p) → T (wellFormed r)
-    → z ≡ settled r (callOf p) → z ≡ lineEffect r line
+pub line-done : (r : Register) (line : List ℕ) (c : Call) (z : Effect) → parse line ≡ some c → T (wellFormed r) → z ≡ settled r c → z ≡ lineEffect r line
 unfolding lineEffect
-line-done r line p z e k h = h ∙ sym (step-settled r (callOf p) k) ∙ ap (requested r) (sym e)
+line-done r line c z e k h = h ∙ sym (step-settled r c k) ∙ ap (requested r) (sym e)
+
+-- a check, by the session and what it is on; x and y are the role and the capability of that
+check-placed : (o : Origin) (n x y : ℕ) → x ≡ roleHeld o → y ≡ capabilityHeld o
+    → OnPlaced (record { user = 0; role = x % 32; parent = 0; capability = y % 256; session = n % 64 }) o
+check-placed (ofRole k) n x y a b = ap (λ (z : ℕ). z % 32) a
+check-placed (ofCapability k) n x y a b = ap (λ (z : ℕ). z % 256) b
+
+pub check-done : (r : Register) (permissions : List ℕ) (n q x y : ℕ) (o : Outcome) → T (wellFormed r) → Column permissions (r .roles)
+    → x ≡ roleHeld ((sessionAt (r .sessions) (n % 64)) .on) → y ≡ capabilityHeld ((sessionAt (r .sessions) (n % 64)) .on)
+    → o ≡ checkAnswer (r .clock) (sessionAt (r .sessions) (n % 64)) (roleAt (r .roles) (x % 32)) (capabilityAt (r .capabilities) (y % 256)) permissions n q
+    → record { answer = o; after = r } ≡ settled r (check n q)
+check-done r permissions n q x y o k column a b e =
+    ap (λ (z : Outcome). record { answer = z; after = r }) e
+    ∙ check-answered r (record { user = 0; role = x % 32; parent = 0; capability = y % 256; session = n % 64 }) permissions n q k column refl (check-placed ((sessionAt (r .sessions) (n % 64)) .on) n x y a b)
 
 -- ---- the test of the rules says the same after a line
 
@@ -73,24 +94,22 @@ formed-after r line z h e = h ∙ sym (line-formed r line) ∙ ap (λ (y : Effec
 
 -- ---- printing into the part of the output that follows what is printed
 
--- an answer printed at `at`, and the texts after it
-pub answer-step : (at : ℕ) (o : Outcome) (ys s whole last : List ℕ) → placed at (printed o ++ ys) s ≡ whole → at + 14 ≤ length s
-    → last ≡ written (printed o) (take (length s - at) (drop at s)) → placed (at + length (printed o)) ys (putMid at (length s - at) s last) ≡ whole
-answer-step at o ys s whole last h room e =
-    let fits : 14 ≤ length (take (length s - at) (drop at s)) = omega (arith, length-tail at s) in
-    let short : at + length (printed o) ≤ length s = omega (arith, printed-most o) in
-    ap (placed (at + length (printed o)) ys) (tail-back at (printed o) s last (e ∙ printed-room o _ fits .0))
-    ∙ placed-append at (printed o) ys s short
-    ∙ h
+module _ (at : ℕ) (o : Outcome) (s : List ℕ) (room : at + length (printed o) ≤ length s) where
+  fits : length (printed o) ≤ length (take (length s - at) (drop at s))
+  fits = omega (arith, length-tail at s)
 
--- the last answer
-pub answer-last : (at : ℕ) (o : Outcome) (s last : List ℕ) → at + 14 ≤ length s
-    → last ≡ written (printed o) (take (length s - at) (drop at s)) → putMid at (length s - at) s last ≡ placed at (printed o) s
-answer-last at o s last room e = tail-back at (printed o) s last (e ∙ printed-room o _ (omega (arith, length-tail at s)) .0)
+  -- the answer printed at `at`
+  pub answer-last : (last : List ℕ) → last ≡ written (printed o) (take (length s - at) (drop at s)) → putMid at (length s - at) s last ≡ placed at (printed o) s
+  answer-last last e = tail-back at (printed o) s last (e ∙ written-room (printed o) _ fits)
 
--- how many bytes an answer takes
-pub answer-size : (at : ℕ) (o : Outcome) (s : List ℕ) {n : ℕ} → at + 14 ≤ length s → n ≡ filled (printed o) (take (length s - at) (drop at s)) → n ≡ length (printed o)
-answer-size at o s room e = e ∙ printed-room o _ (omega (arith, length-tail at s)) .1
+  -- and the texts after it
+  pub answer-step : (ys whole last : List ℕ) → placed at (printed o ++ ys) s ≡ whole → last ≡ written (printed o) (take (length s - at) (drop at s))
+      → placed (at + length (printed o)) ys (putMid at (length s - at) s last) ≡ whole
+  answer-step ys whole last h e = ap (placed (at + length (printed o)) ys) (answer-last last e) ∙ placed-append at (printed o) ys s room ∙ h
+
+  -- how many bytes it takes
+  pub answer-size : {n : ℕ} → n ≡ filled (printed o) (take (length s - at) (drop at s)) → n ≡ length (printed o)
+  answer-size e = e ∙ filled-room (printed o) _ fits
 
 -- something follows the last line feed
 pub unended-some : (s : List ℕ) (at : ℕ) → at < length s → unended (drop at s) ≡ printed (refused 1)
@@ -104,37 +123,47 @@ pub record Playing (start : Register) (input out₀ : List ℕ) (r : Register) (
   pub text : placed to (transcript r (split 10 (drop at input))) out ≡ front (transcript start (split 10 input)) out₀
   pub size : to + length (transcript r (split 10 (drop at input))) ≡ length (transcript start (split 10 input))
   pub kept : length out ≡ length out₀
-  pub room : to + 14 * (length input - at) ≤ length out
+  pub room : length (transcript start (split 10 input)) ≤ length out₀
+
+-- there is room for what is left
+pub left-fits : (start : Register) (input out₀ : List ℕ) (r : Register) (out : List ℕ) (at to : ℕ) → Playing start input out₀ r out at to
+    → to + length (transcript r (split 10 (drop at input))) ≤ length out
+left-fits start input out₀ r out at to p = omega (arith, p .size, p .room, p .kept)
+
+pub to-within : (start : Register) (input out₀ : List ℕ) (r : Register) (out : List ℕ) (at to : ℕ) → Playing start input out₀ r out at to → to ≤ length out
+to-within start input out₀ r out at to p = omega (arith, left-fits start input out₀ r out at to p)
 
 -- the line of n bytes, answered o with the register next: m bytes are printed, and `last` is what the printer left
 module _ (start : Register) (input out₀ : List ℕ) (r : Register) (out : List ℕ) (at to : ℕ) (p : Playing start input out₀ r out at to)
     (n : ℕ) (line : n ≡ length (before 10 (drop at input))) (more : at + n < length input) (o : Outcome) (next : Register)
     (effect : record { answer = o; after = next } ≡ lineEffect r (take (at + n - at) (drop at input)))
     (m : ℕ) (last : List ℕ) (printing : (m ≡ filled (printed o) (take (length out - to) (drop to out))) × (last ≡ written (printed o) (take (length out - to) (drop to out)))) where
-  fits : to + 14 ≤ length out
-  fits = omega (arith, p .room, more)
-
-  count : m ≡ length (printed o)
-  count = answer-size to o out fits (printing .0)
-
   left : transcript r (split 10 (drop at input)) ≡ printed o ++ transcript next (split 10 (drop (at + n + 1) input))
   left =
       transcript-line r input at n line more
       ∙ ap (λ (z : Effect). printed (z .answer) ++ transcript (z .after) (split 10 (drop (at + n + 1) input))) (sym effect)
 
+  sum : length (transcript r (split 10 (drop at input))) ≡ length (printed o) + length (transcript next (split 10 (drop (at + n + 1) input)))
+  sum = ap length left ∙ length-append (printed o) _
+
+  fit : to + length (printed o) ≤ length out
+  fit = omega (arith, left-fits start input out₀ r out at to p, sum)
+
+  count : m ≡ length (printed o)
+  count = answer-size to o out fit (printing .0)
+
   pub no-wrap : to + m ≤ length out
-  no-wrap = omega (arith, fits, count, printed-most o)
+  no-wrap = omega (arith, fit, count)
 
   pub turn : length (putMid to (length out - to) out last) ≡ length out
       → Playing start input out₀ next (putMid to (length out - to) out last) (at + n + 1) (to + m)
   turn same =
-      let sum = simp length-append at (ap length left) in
       record {
         inside = omega (arith, more);
-        text = rw count (answer-step to o _ out _ last (rw left at (p .text)) fits (printing .1));
+        text = rw count (answer-step to o out fit _ _ last (rw left at (p .text)) (printing .1));
         size = omega (arith, count, sum, p .size);
         kept = same ∙ p .kept;
-        room = rw same (omega (arith, count, printed-most o, p .room, more));
+        room = p .room;
       }
 
 -- ---- the whole journal
@@ -150,11 +179,11 @@ journal-short r input l =
     ap (λ (b : Bool). elim b as (λ x. List ℕ) [ true ↦ transcript r (split 10 input) | false ↦ printed (refused 1) ]) (le-leb (length input) 32768 l)
 
 module _ (r : Register) (input out : List ℕ) where
-  pub no-room : length out < 458752 → (0 ≡ journalLength r input out) × (out ≡ journalBuffer r input out)
+  pub no-room : length out < 163840 → (0 ≡ journalLength r input out) × (out ≡ journalBuffer r input out)
   unfolding journalLength journalBuffer
-  no-room h = rw (lt-leb 458752 (length out) h) (refl, refl)
+  no-room h = rw (lt-leb 163840 (length out) h) (refl, refl)
 
-  pub with-room : 458752 ≤ length out → (text : List ℕ) → journal r input ≡ text
+  pub with-room : 163840 ≤ length out → (text : List ℕ) → journal r input ≡ text
       → (length text ≡ journalLength r input out) × (front text out ≡ journalBuffer r input out)
   unfolding journalLength journalBuffer
-  with-room h text e = rw (le-leb 458752 (length out) h) (ap length (sym e), ap (λ (x : List ℕ). front x out) (sym e))
+  with-room h text e = rw (le-leb 163840 (length out) h) (ap length (sym e), ap (λ (x : List ℕ). front x out) (sym e))

@@ -1,2 +1,3 @@
 -- What is left to print of a journal, by where its next line feed is.
 pub mod Laws
+pub mod Room

@@ -7,31 +7,37 @@ ghost use Rattle.model.specs.Journal.{transcript};
 ghost use Rattle.player.specs.Play.{journalLength, journalBuffer};
 use crate::step::Step;
 use crate::step::step_of;
-use calls::apply::apply_trusted;
+use calls::apply::order_of;
 use calls::one::decide;
 use model::Answer;
 use model::Refusal;
 use model::Register;
+use places::capability_held;
 use places::capability_place;
 use places::names_of;
 use places::parent_place;
+use places::role_held;
 use places::role_place;
 use revocation::columns::permissions_of;
+use revocation::orders::Order;
+use revocation::sweeps::sweep_all;
 use rules::well_formed;
+use sessions::answer_check;
 use slots::Slots;
 use text::answers::print;
 use text::parts::count_before;
 
 mod step;
 
-// The lines of an input, from any register; the output has room for 14 bytes a byte. The register is one local, changed in
+// The lines of an input, from any register; the output has room for five bytes a byte. The register is one local, changed in
 // place: a function that took it and read an element would copy it for each line, so the elements are read and put back here.
 fn play(start: Register, input: &[u8], out: &mut [u8]) -> usize
-    requires { ⌜ 14 * length (now input) ≤ length (now out) ⌝ }
+    requires { ⌜ 5 * length (now input) ≤ length (now out) ⌝ }
     ensures { λ q. ⌜ (q ≡ length (transcript start (split 10 (now (input .entry))))) × (now (out .exit) ≡ front (transcript start (split 10 (now (input .entry)))) (now (out .entry))) × (q ≤ length (now (out .entry))) ⌝ }
 {
     let formed = well_formed(start);
-    let mut permissions = permissions_of(start);
+    let roles = start.roles;
+    let mut permissions = permissions_of(roles);
     let mut r = start;
     let mut at: usize = 0;
     let mut to: usize = 0;
@@ -47,14 +53,44 @@ fn play(start: Register, input: &[u8], out: &mut [u8]) -> usize
                 let n = print(&mut out[to..], Answer::Refused(why));
                 to += n;
             }
-            Step::Sweep(q) => {
-                let reply = apply_trusted(r, q);
-                let answer = reply.answer;
+            Step::Check(number, permission) => {
+                let sn = (number % 64) as usize;
+                let session = r.sessions[sn];
+                let on = session.on;
+                let cn = (capability_held(on) % 256) as usize;
+                let rn = (role_held(on) % 32) as usize;
+                let role = r.roles[rn];
+                let c = r.capabilities[cn];
+                let answer = answer_check(
+                    r.clock,
+                    session,
+                    role,
+                    c,
+                    &permissions,
+                    number,
+                    permission,
+                );
                 let n = print(&mut out[to..], answer);
                 to += n;
-                let next = reply.register;
-                permissions = permissions_of(next);
-                r = next;
+            }
+            Step::Tree(t) => {
+                let order = order_of(r, t);
+                match order {
+                    Order::Answered(answer) => {
+                        let n = print(&mut out[to..], answer);
+                        to += n;
+                    }
+                    Order::Swept(s) => {
+                        let reply = sweep_all(r, s);
+                        let answer = reply.answer;
+                        let n = print(&mut out[to..], answer);
+                        to += n;
+                        let next = reply.register;
+                        let roles = next.roles;
+                        permissions = permissions_of(roles);
+                        r = next;
+                    }
+                }
             }
             Step::One(q) => {
                 let m = names_of(q);
@@ -105,11 +141,11 @@ fn play(start: Register, input: &[u8], out: &mut [u8]) -> usize
 }
 
 // A whole journal, from any register: above 32,768 bytes just `no 1`. Where the output has no room for the longest answer to
-// that much input, 458,752 bytes, nothing is written.
+// that much input, 163,840 bytes, nothing is written.
 pub fn journal(start: Register, input: &[u8], out: &mut [u8]) -> usize
     ensures { λ q. ⌜ (q ≡ journalLength start (now (input .entry)) (now (out .entry))) × (now (out .exit) ≡ journalBuffer start (now (input .entry)) (now (out .entry))) × (q ≤ length (now (out .entry))) ⌝ }
 {
-    if out.len() < 458752 {
+    if out.len() < 163840 {
         return 0;
     }
     if 32768 < input.len() {

@@ -1,16 +1,19 @@
-// What is to be done for a line: refused whatever the register holds, one call in place, or a call that sweeps.
+// What is to be done for a line: it is refused whatever the register holds; it is a check, which changes nothing; it changes only
+// elements that it names; or it is a call over the whole tree.
 ghost use Rattle.player.specs.Steps.{Fits};
 use model::Parsed;
 use model::Refusal;
 use model::Request;
 use places::Task;
+use places::TreeCall;
 use places::task_of;
 use text::requests::parse;
 
 pub enum Step {
     Refuse(Refusal),
+    Check(u32, u32),
     One(Request),
-    Sweep(Request),
+    Tree(TreeCall),
 }
 
 // `formed` is what the test of the rules says of the register.
@@ -24,12 +27,12 @@ pub fn step_of(formed: bool, line: &[u8]) -> Step
     if !formed {
         return Step::Refuse(Refusal::Broken);
     }
+    if let Request::Check(session, permission) = q {
+        return Step::Check(session, permission);
+    }
     let task = task_of(q);
     match task {
         Task::One(one) => Step::One(one),
-        Task::Withdraw(_, _) => Step::Sweep(q),
-        Task::Amend(_, _, _) => Step::Sweep(q),
-        Task::Revoke(_, _) => Step::Sweep(q),
-        Task::Same(_, _) => Step::Sweep(q),
+        Task::Tree(t) => Step::Tree(t),
     }
 }

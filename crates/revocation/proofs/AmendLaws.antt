@@ -30,7 +30,8 @@ use Rattle.slots.specs.Checks.{checked, firstNumber}
 use Rattle.slots.proofs.CheckLaws.{in-range}
 use Rattle.slots.proofs.SlotLaws.{settle-after}
 use Rattle.revocation.specs.declared.amending.Amendment.{Amendment}
-use Rattle.revocation.specs.Sweeping.{parentPlace, parentLimit, amendmentOf}
+use Rattle.revocation.specs.declared.sweeps.Sweep.the-variants.{Limit}
+use Rattle.revocation.specs.Sweeping.{parentPlace, parentLimit, amendmentOf, sweptBy}
 use Rattle.revocation.specs.Guards.{amendGuards}
 use Rattle.slots.proofs.SettleLaws.{settle-past, refuse-settled, pass-settled}
 use Rattle.revocation.proofs.SweepLaws.{parent-limit}
@@ -124,17 +125,17 @@ module _
       let low : j < n = falls (r .enrolled) (r .roles) (r .count) (r .capabilities) (kept→ r formed .capabilities) n j l e in
       formed→ r formed .capabilities j (omega arith) .ranges .use-limit
 
-  pub amend-passed : (s : Register) → s ≡ withCapabilities r (rising blankCapability (limitOne (n % 256) (a .limit % 65536)) 256 (r .capabilities)) → k ≡ Pass
-      → record { answer = value (a .limit); after = s } ≡ settled r (amend user n change)
+  pub amend-passed : k ≡ Pass → sweptBy r (Limit (n % 256) (a .limit % 65536)) ≡ settled r (amend user n change)
   unfolding amendRuling
-  amend-passed s m p =
-      pass-settled r s _ (a .limit) k tt checks p
-      ∙ amend-guards (a .limit) s
+  amend-passed p =
+      pass-settled r _ _ (a .limit % 65536) k tt checks p
+      ∙ amend-guards (a .limit % 65536) _
       (λ e t g.
       let there : n < r .count = ltb→lt n (r .count) (passed 3 asked-rest g .1 .0) in
       let fits : limit ≤ (terms (r .roles) (r .capabilities) (originAt (r .capabilities) n)) .use-limit = leb→le _ _ (passed 11 asked-rest g .0) in
-      let low : limit < 65536 = omega (arith, limit-small (originAt (r .capabilities) n) refl there) in (
-        amend-limit e t,
-        m ∙ ap₂ (λ (j x : ℕ). withCapabilities r (rising blankCapability (limitOne j x) 256 (r .capabilities))) e (ap (λ (x : ℕ). x % 65536) (amend-limit e t) ∙ mod-eq-of-lt low)
+      let low : limit < 65536 = omega (arith, limit-small (originAt (r .capabilities) n) refl there) in
+      let same : a .limit % 65536 ≡ limit = ap (λ (x : ℕ). x % 65536) (amend-limit e t) ∙ mod-eq-of-lt low in (
+        same,
+        ap₂ (λ (j x : ℕ). withCapabilities r (rising blankCapability (limitOne j x) 256 (r .capabilities))) e same
             ∙ ap (withCapabilities r) (sweep-limits (r .enrolled) (r .roles) (r .count) (r .capabilities) (kept→ r formed .capabilities) n there limit fits),
       ))

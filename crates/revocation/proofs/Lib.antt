@@ -7,3 +7,4 @@ pub mod RevokeLaws
 pub mod SameLaws
 pub mod AmendLaws
 pub mod WithdrawLaws
+pub mod OrderLaws

@@ -9,7 +9,7 @@ use native.Mathlib.Omega.{arith}
 use lib.Dec.{T, eqb, ltb, ltb→lt}
 use lib.ListN.{getD}
 use Rattle.masks.specs.Masks.{has}
-use Rattle.masks.specs.Tests.{countBelow}
+use Rattle.masks.specs.Tests.{countBelow, rising}
 use Rattle.masks.proofs.Bounded.{countBelow-ext}
 use Rattle.masks.proofs.Rising.{rising-later, rising-done}
 use Rattle.model.specs.declared.Capability.{Capability}
@@ -30,12 +30,19 @@ use Rattle.slots.specs.declared.checks.Check.{Check}
 use Rattle.slots.specs.declared.checks.Check.the-variants.{Pass, Refuse}
 use Rattle.slots.specs.Checks.{checked, firstNumber}
 use Rattle.slots.proofs.CheckLaws.{in-range}
-use Rattle.revocation.specs.declared.sweeps.Swept.{Swept}
-use Rattle.revocation.specs.Sweeping.{markedBelow, newlyMarked, Marks}
+use Rattle.revocation.specs.declared.sweeps.Sweep.the-variants.{Mark}
+use Rattle.revocation.specs.Sweeping.{newlyBy, sweptBy}
 use Rattle.revocation.specs.Guards.{revokeGuards}
 use Rattle.revocation.specs.Tree.{lineageHas}
 use Rattle.slots.proofs.SettleLaws.{settle-past, refuse-settled, pass-settled}
 use Rattle.revocation.proofs.Ascent.{Origins, Creators, created-is}
+
+-- the capabilities once revoke's sweep has done those below i, and whether it newly marks i
+abbrev markedBelow : List Capability → ℕ → ℕ → List Capability
+markedBelow cs n i = rising blankCapability (markOne n) i cs
+
+abbrev newlyMarked : List Capability → ℕ → ℕ → Bool
+newlyMarked cs n = newlyBy (markOne n) cs
 
 -- numbers that do not pass add nothing
 count-below : (p : ℕ → Bool) (n m : ℕ) → n ≤ m → ((k : ℕ) → n ≤ k → k < m → p k ≡ false) → countBelow m p ≡ countBelow n p
@@ -116,12 +123,12 @@ module _
   pub revoke-refused : {why : Refusal} → k ≡ Refuse why → record { answer = refused (refusalNumber why); after = r } ≡ settled r (revoke user n)
   revoke-refused q = refuse-settled r ((revokeRuling r user n) .after) guards ((revokeRuling r user n) .result) k checks q ∙ revoke-guards _ _ (λ e l. (refl, refl))
 
-  pub revoke-passed : (q : Swept) → Marks r (n % 256) q → k ≡ Pass → record { answer = value (q .marks); after = q .register } ≡ settled r (revoke user n)
+  pub revoke-passed : k ≡ Pass → sweptBy r (Mark (n % 256)) ≡ settled r (revoke user n)
   unfolding revokeRuling
-  revoke-passed q m p =
-      pass-settled r (q .register) guards (q .marks) k tt checks p
-      ∙ revoke-guards (q .marks) (q .register)
+  revoke-passed p =
+      pass-settled r _ guards _ k tt checks p
+      ∙ revoke-guards _ _
       (λ e l. (
-        m .marks ∙ ap (λ (j : ℕ). countBelow 256 (newlyMarked (r .capabilities) j)) e ∙ marks-counted r formed n l,
-        m .register ∙ ap (λ (j : ℕ). withCapabilities r (markedBelow (r .capabilities) j 256)) e ∙ ap (withCapabilities r) (swept r formed n l),
+        ap (λ (j : ℕ). countBelow 256 (newlyMarked (r .capabilities) j)) e ∙ marks-counted r formed n l,
+        ap (λ (j : ℕ). withCapabilities r (markedBelow (r .capabilities) j 256)) e ∙ ap (withCapabilities r) (swept r formed n l),
       ))

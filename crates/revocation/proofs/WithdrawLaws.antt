@@ -2,6 +2,7 @@
 use mathlib.Core.Path.{_≡_, refl, ap₂, _∙_}
 use mathlib.Core.List.{[], _∷_}
 use Prim.Native.Nat.{ℕ, _%_}
+use native.Mathlib.Omega.{arith}
 use lib.ListN.{set}
 use Rattle.masks.specs.Masks.{has, excluding}
 use Rattle.masks.specs.Tests.{rising}
@@ -18,7 +19,9 @@ use Rattle.slots.specs.declared.checks.Check.{Check}
 use Rattle.slots.specs.declared.checks.Check.the-variants.{Pass, Refuse}
 use Rattle.slots.specs.Checks.{checked, firstNumber}
 use Rattle.slots.proofs.CheckLaws.{in-range}
+use Rattle.revocation.specs.declared.sweeps.Sweep.the-variants.{Cut}
 use Rattle.revocation.specs.Guards.{withdrawGuards}
+use Rattle.revocation.specs.Sweeping.{sweptBy}
 use Rattle.slots.proofs.SettleLaws.{settle-past, refuse-settled, pass-settled}
 
 -- the register after the sweep over the capabilities, by the roles after the permission is taken from role j
@@ -45,7 +48,11 @@ module _ (r : Register) (role permission : ℕ) (k : Check) (checks : checked k 
   pub withdraw-refused : {why : Refusal} → k ≡ Refuse why → record { answer = refused (refusalNumber why); after = r } ≡ settled r (withdraw role permission)
   withdraw-refused q = refuse-settled r (cutAfter (takenFrom r role permission)) _ 0 k checks q ∙ withdraw-guards _ (λ e f. refl)
 
-  pub withdraw-passed : (s : Register) → s ≡ cutAfter (takenFrom r (role % 32) (permission % 32)) → k ≡ Pass → record { answer = value 0; after = s } ≡ settled r (withdraw role permission)
-  withdraw-passed s m p =
-      pass-settled r s _ 0 k tt checks p
-      ∙ withdraw-guards s (λ e f. m ∙ ap₂ (λ (j q : ℕ). cutAfter (takenFrom r j q)) e f)
+  pub withdraw-passed : (left : ℕ) → left ≡ excluding ((roleAt (r .roles) (role % 32)) .permissions) (permission % 32) → k ≡ Pass → sweptBy r (Cut (role % 32) left) ≡ settled r (withdraw role permission)
+  withdraw-passed left m p =
+      pass-settled r _ _ 0 k tt checks p
+      ∙ withdraw-guards _
+      (λ e f.
+      let at : role % 32 % 32 ≡ role = omega (arith, e) in
+      ap₂ (λ (j x : ℕ). cutAfter (withRoles r (set (r .roles) j (withRolePermissions (roleAt (r .roles) j) x)))) at
+      (m ∙ ap₂ (λ (j q : ℕ). excluding ((roleAt (r .roles) j) .permissions) q) e f))

@@ -1,23 +1,32 @@
--- The rising sweeps over single capabilities.
-use mathlib.Core.Path.{_≡_}
-use mathlib.Core.Bool.{Bool, false, cond, not, _&&_}
+-- The rising sweep over single capabilities, and what a call over the whole tree comes to.
+use mathlib.Core.Bool.{Bool, false, cond, not, _&&_, _||_}
 use mathlib.Core.List.{List}
-use Prim.Native.Nat.{ℕ, _+_, _-_, _%_}
-use lib.Bits.{bitOr}
+use Prim.Native.Nat.{ℕ, _+_, _-_, _%_, min}
+use lib.Bits.{bitAnd, bitOr}
 use lib.Dec.{eqb, ltb}
-use lib.ListN.{getD}
+use lib.ListN.{getD, set}
 use Rattle.masks.specs.Masks.{joined}
 use Rattle.masks.specs.Tests.{countBelow, rising}
 use Rattle.model.specs.declared.Origin.{Origin}
 use Rattle.model.specs.declared.Origin.the-variants.{Role as ofRole, Capability as ofCapability}
+use Rattle.model.specs.declared.Answer.the-variants.{Refused}
+use Rattle.model.specs.declared.Role.{Role}
 use Rattle.model.specs.declared.Capability.{Capability}
 use Rattle.model.specs.declared.Register.{Register}
-use Rattle.model.specs.State.{blankCapability, capabilityAt}
-use Rattle.model.specs.Setters.{withCapabilities}
-use Rattle.model.specs.Sweeps.{markOne}
+use Rattle.model.specs.State.{blankCapability, roleAt, capabilityAt}
+use Rattle.model.specs.Setters.{withRevoked, withUseLimit, withPermissions, withRolePermissions, withRoles, withCapabilities}
+use Rattle.model.specs.Sweeps.{markOne, limitOne}
+use Rattle.model.specs.Administration.{cutPermissions}
+use Rattle.model.specs.Rulings.{value, Effect}
+use Rattle.model.specs.Requests.{outcomeOf}
 use Rattle.model.specs.Revocation.{Change, raise, lower}
+use Rattle.slots.specs.declared.checks.Check.{Check}
+use Rattle.slots.specs.declared.checks.Check.the-variants.{Pass, Refuse}
 use Rattle.revocation.specs.declared.amending.Amendment.{Amendment}
-use Rattle.revocation.specs.declared.sweeps.Swept.{Swept}
+use Rattle.revocation.specs.declared.sweeps.Sweep.{Sweep}
+use Rattle.revocation.specs.declared.sweeps.Sweep.the-variants.{Mark, Limit, Cut}
+use Rattle.revocation.specs.declared.orders.Order.{Order}
+use Rattle.revocation.specs.declared.orders.Order.the-variants.{Answered, Swept}
 
 -- where the capability stands that is the origin; for a role any place serves
 abbrev pub parentPlace : Origin → ℕ
@@ -45,19 +54,57 @@ parentGrants permissions (ofCapability k) parent = bitOr (parent .permissions) (
 unfoldable pub oneIf : Bool → ℕ
 oneIf t = cond t 1 0
 
--- the capabilities as revoke's sweep has them once those below i are done
-abbrev pub markedBelow : List Capability → ℕ → ℕ → List Capability
-markedBelow cs n i = rising blankCapability (markOne n) i cs
+-- ---- one sweep
 
--- capability i is newly marked when the sweep reaches it
-abbrev pub newlyMarked : List Capability → ℕ → ℕ → Bool
-newlyMarked cs n i =
-    (markOne n i (markedBelow cs n i) (capabilityAt (markedBelow cs n i) i)) .revoked && not ((capabilityAt (markedBelow cs n i) i) .revoked)
+-- capability c, which has number i, once the sweep has reached it; its parent is as it is by then
+abbrev pub sweptOne : Sweep → ℕ → Capability → Capability → List ℕ → Capability
+sweptOne (Mark n) i c parent permissions = withRevoked c (c .revoked || (eqb i n || parentRevoked (c .origin) parent))
+sweptOne (Limit n limit) i c parent permissions =
+    withUseLimit c (cond (eqb i n) limit (min (c .«use_limit») (parentLimit (c .origin) parent)))
+sweptOne (Cut k p) i c parent permissions = withPermissions c (bitAnd (c .permissions) (parentGrants permissions (c .origin) parent))
 
--- what revoke's sweep gives: all are marked that are due, and the new marks are counted
-pub record Marks (r : Register) (n : ℕ) (q : Swept) : Type 0 where
-  pub register : q .register ≡ withCapabilities r (markedBelow (r .capabilities) n 256)
-  pub marks : q .marks ≡ countBelow 256 (newlyMarked (r .capabilities) n)
+-- the same as the model says it, over all capabilities as they are by then
+abbrev pub sweepOne : List Role → Sweep → ℕ → List Capability → Capability → Capability
+sweepOne roles (Mark n) = markOne n
+sweepOne roles (Limit n limit) = limitOne n limit
+sweepOne roles (Cut k p) = cutPermissions roles
+
+-- the roles that the sweep goes by
+abbrev pub rolesAfter : List Role → Sweep → List Role
+rolesAfter roles (Mark n) = roles
+rolesAfter roles (Limit n limit) = roles
+rolesAfter roles (Cut k p) = set roles (k % 32) (withRolePermissions (roleAt roles (k % 32)) p)
+
+-- the value of the call: the new marks, the limit, or 0
+abbrev pub valueOf : Sweep → ℕ → ℕ
+valueOf (Mark n) marks = marks
+valueOf (Limit n limit) marks = limit
+valueOf (Cut k p) marks = 0
+
+-- capability i is newly marked when a sweep by f reaches it
+abbrev pub newlyBy : (ℕ → List Capability → Capability → Capability) → List Capability → ℕ → Bool
+newlyBy f cs i =
+    (f i (rising blankCapability f i cs) (capabilityAt (rising blankCapability f i cs) i)) .revoked && not ((capabilityAt (rising blankCapability f i cs) i) .revoked)
+
+-- what a sweep comes to
+abbrev pub sweptBy : Register → Sweep → Effect
+sweptBy r s =
+    record {
+      answer = value (valueOf s (countBelow 256 (newlyBy (sweepOne (rolesAfter (r .roles) s) s) (r .capabilities))));
+      after = withCapabilities (withRoles r (rolesAfter (r .roles) s)) (rising blankCapability (sweepOne (rolesAfter (r .roles) s) s) 256 (r .capabilities));
+    }
+
+-- what an order comes to
+abbrev pub orderEffect : Register → Order → Effect
+orderEffect r (Answered a) = record { answer = outcomeOf a; after = r }
+orderEffect r (Swept s) = sweptBy r s
+
+-- a call that is refused, or sweeps
+abbrev pub orderedBy : Check → Sweep → Order
+orderedBy Pass s = Swept s
+orderedBy (Refuse why) s = Answered (Refused why)
+
+-- ---- amend
 
 -- what a change of the use limit n asks for: whether it is in its range, is 0, would fall below 0; and the limit after it
 abbrev pub amendmentOf : Change → ℕ → Amendment

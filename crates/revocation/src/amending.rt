@@ -4,20 +4,20 @@ ghost use Prim.Native.Nat.{_-_};
 ghost use lib.Dec.{T};
 ghost use Rattle.model.specs.Rules.{wellFormed};
 ghost use Rattle.model.specs.Calls.{settled, amend};
-ghost use Rattle.model.specs.Requests.{effectOf, changeOf};
+ghost use Rattle.model.specs.Requests.{changeOf};
 ghost use Rattle.slots.specs.Checks.{checked, firstNumber};
 ghost use Rattle.revocation.specs.Guards.{amendGuards};
-ghost use Rattle.revocation.specs.Sweeping.{amendmentOf};
-use crate::sweeps::limit_all;
+ghost use Rattle.revocation.specs.Sweeping.{amendmentOf, orderEffect};
+use crate::orders::Order;
+use crate::orders::ordered;
+use crate::sweeps::Sweep;
 use crate::sweeps::parent_limit;
 use crate::sweeps::parent_of;
 use masks::member;
-use model::Answer;
 use model::Capability;
 use model::Change;
 use model::Refusal;
 use model::Register;
-use model::Reply;
 use slots::checks::Check;
 use slots::checks::first;
 
@@ -75,29 +75,16 @@ pub fn amend_check(
     first(!((user < 64) & (n < 256) & a.ranged), Refusal::Range, k)
 }
 
-pub fn amend_core(r: Register, user: u32, n: u32, change: Change) -> Reply
+pub fn amend_order(r: Register, user: u32, n: u32, change: Change) -> Order
     requires { ⌜ T (wellFormed r) ⌝ }
-    ensures { λ q. ⌜ effectOf q ≡ settled r (amend user n (changeOf change)) ⌝ }
+    ensures { λ q. ⌜ orderEffect r q ≡ settled r (amend user n (changeOf change)) ⌝ }
 {
-    let at = (n % 256) as usize;
-    let c = r.capabilities[at];
+    let c = r.capabilities[(n % 256) as usize];
     let o = c.origin;
     let up = parent_of(o);
     let parent = r.capabilities[up as usize];
     let bound = parent_limit(o, parent);
     let a = amendment_of(change, c.use_limit);
     let k = amend_check(r.enrolled, r.count, user, n, c, a, bound);
-    match k {
-        Check::Refuse(why) => Reply {
-            answer: Answer::Refused(why),
-            register: r,
-        },
-        Check::Pass => {
-            let next = limit_all(r, at, (a.limit % 65536) as u16);
-            Reply {
-                answer: Answer::Value(a.limit),
-                register: next,
-            }
-        }
-    }
+    ordered(k, Sweep::Limit((n % 256) as u8, (a.limit % 65536) as u16))
 }

@@ -6,12 +6,12 @@ ghost use Rattle.model.specs.State.{roleAuthority, capabilityAt, originAt};
 ghost use Rattle.revocation.specs.Tree.{originCode};
 use model::Origin;
 use model::Register;
+use model::Role;
 
 // What each role grants.
-pub fn permissions_of(r: Register) -> [u32; 32]
-    ensures { λ q. ⌜ ((k : ℕ) → k < 32 → getD q k 0 ≡ roleAuthority (r .roles) k) ⌝ }
+pub fn permissions_of(roles: [Role; 32]) -> [u32; 32]
+    ensures { λ q. ⌜ ((k : ℕ) → k < 32 → getD q k 0 ≡ roleAuthority roles k) ⌝ }
 {
-    let roles = r.roles;
     let mut column = [0u32; 32];
     let mut i: usize = 0;
     while i < 32 {
@@ -32,31 +32,24 @@ pub fn code_of(o: Origin) -> u16
     }
 }
 
-// The origin of each capability.
-pub fn origins_of(r: Register) -> [u16; 256]
-    ensures { λ q. ⌜ ((k : ℕ) → k < 256 → getD q k 0 ≡ originCode (originAt (r .capabilities) k)) ⌝ }
+// The origin and the creator of each capability.
+pub struct Lineage {
+    pub origins: [u16; 256],
+    pub creators: [u16; 256],
+}
+
+pub fn lineage_of(r: Register) -> Lineage
+    ensures { λ q. ⌜ ((k : ℕ) → k < 256 → getD (q .origins) k 0 ≡ originCode (originAt (r .capabilities) k)) × ((k : ℕ) → k < 256 → getD (q .creators) k 0 ≡ capabilityAt (r .capabilities) k .creator) ⌝ }
 {
-    let mut column = [0u16; 256];
+    let mut origins = [0u16; 256];
+    let mut creators = [0u16; 256];
     let mut i: usize = 0;
     while i < 256 {
         let c = r.capabilities[i];
         let o = c.origin;
-        column[i] = code_of(o);
+        origins[i] = code_of(o);
+        creators[i] = c.creator as u16;
         i = i + 1;
     }
-    column
-}
-
-// The creator of each capability.
-pub fn creators_of(r: Register) -> [u16; 256]
-    ensures { λ q. ⌜ ((k : ℕ) → k < 256 → getD q k 0 ≡ capabilityAt (r .capabilities) k .creator) ⌝ }
-{
-    let mut column = [0u16; 256];
-    let mut i: usize = 0;
-    while i < 256 {
-        let c = r.capabilities[i];
-        column[i] = c.creator as u16;
-        i = i + 1;
-    }
-    column
+    Lineage { origins, creators }
 }

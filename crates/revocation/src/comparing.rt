@@ -3,19 +3,20 @@ ghost use mathlib.Core.Path.{_≡_};
 ghost use lib.Dec.{T};
 ghost use Rattle.model.specs.Rules.{wellFormed};
 ghost use Rattle.model.specs.Calls.{settled, same};
-ghost use Rattle.model.specs.Requests.{effectOf, outcomeOf};
+ghost use Rattle.model.specs.Requests.{outcomeOf};
 ghost use Rattle.slots.specs.Checks.{checked, firstNumber};
 ghost use Rattle.revocation.specs.Guards.{sameGuards, sameAnswer};
-use crate::columns::origins_of;
+ghost use Rattle.revocation.specs.Sweeping.{orderEffect};
+use crate::columns::lineage_of;
 use crate::columns::permissions_of;
 use crate::lineage::root_of;
+use crate::orders::Order;
 use crate::sweeps::one_if;
 use masks::join;
 use model::Answer;
 use model::Capability;
 use model::Refusal;
 use model::Register;
-use model::Reply;
 use slots::checks::Check;
 use slots::checks::first;
 
@@ -55,23 +56,22 @@ pub fn compare(
     }
 }
 
-pub fn same_core(r: Register, m: u32, n: u32) -> Reply
+// The answer; the register stays as it is.
+pub fn same_order(r: Register, m: u32, n: u32) -> Order
     requires { ⌜ T (wellFormed r) ⌝ }
-    ensures { λ q. ⌜ effectOf q ≡ settled r (same m n) ⌝ }
+    ensures { λ q. ⌜ orderEffect r q ≡ settled r (same m n) ⌝ }
 {
-    let origins = origins_of(r);
-    let permissions = permissions_of(r);
+    let tree = lineage_of(r);
+    let origins = tree.origins;
+    let roles = r.roles;
+    let permissions = permissions_of(roles);
     let i = (m % 256) as usize;
     let j = (n % 256) as usize;
     let a = r.capabilities[i];
     let b = r.capabilities[j];
-    let x = r.roles[root_of(&origins, i) as usize];
-    let y = r.roles[root_of(&origins, j) as usize];
+    let x = roles[root_of(&origins, i) as usize];
+    let y = roles[root_of(&origins, j) as usize];
     let lent_a = join(&permissions, a.lent);
     let lent_b = join(&permissions, b.lent);
-    let answer = compare(r.count, m, n, a, b, x.domain, y.domain, lent_a, lent_b);
-    Reply {
-        answer: answer,
-        register: r,
-    }
+    Order::Answered(compare(r.count, m, n, a, b, x.domain, y.domain, lent_a, lent_b))
 }

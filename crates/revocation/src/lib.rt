@@ -3,6 +3,7 @@ pub mod amending;
 pub mod columns;
 pub mod comparing;
 mod lineage;
+pub mod orders;
 pub mod revoking;
-mod sweeps;
+pub mod sweeps;
 pub mod withdrawing;

@@ -3,18 +3,17 @@ ghost use mathlib.Core.Path.{_≡_};
 ghost use lib.Dec.{T};
 ghost use Rattle.model.specs.Rules.{wellFormed};
 ghost use Rattle.model.specs.Calls.{settled, revoke};
-ghost use Rattle.model.specs.Requests.{effectOf};
 ghost use Rattle.slots.specs.Checks.{checked, firstNumber};
 ghost use Rattle.revocation.specs.Guards.{revokeGuards};
-use crate::columns::creators_of;
-use crate::columns::origins_of;
+ghost use Rattle.revocation.specs.Sweeping.{orderEffect};
+use crate::columns::lineage_of;
 use crate::lineage::created;
-use crate::sweeps::mark_all;
+use crate::orders::Order;
+use crate::orders::ordered;
+use crate::sweeps::Sweep;
 use masks::member;
-use model::Answer;
 use model::Refusal;
 use model::Register;
-use model::Reply;
 use slots::checks::Check;
 use slots::checks::first;
 
@@ -36,28 +35,16 @@ pub fn revoke_check(
     first(!((user < 64) & (n < 256)), Refusal::Range, k)
 }
 
-pub fn revoke_core(r: Register, user: u32, n: u32) -> Reply
+pub fn revoke_order(r: Register, user: u32, n: u32) -> Order
     requires { ⌜ T (wellFormed r) ⌝ }
-    ensures { λ q. ⌜ effectOf q ≡ settled r (revoke user n) ⌝ }
+    ensures { λ q. ⌜ orderEffect r q ≡ settled r (revoke user n) ⌝ }
 {
-    let origins = origins_of(r);
-    let creators = creators_of(r);
+    let tree = lineage_of(r);
+    let origins = tree.origins;
+    let creators = tree.creators;
     let at = (n % 256) as usize;
     let entitled = created(&origins, &creators, at, user as usize);
     let c = r.capabilities[at];
     let k = revoke_check(r.enrolled, r.count, user, n, entitled, c.revoked);
-    match k {
-        Check::Refuse(why) => Reply {
-            answer: Answer::Refused(why),
-            register: r,
-        },
-        Check::Pass => {
-            let swept = mark_all(r, at);
-            let next = swept.register;
-            Reply {
-                answer: Answer::Value(swept.marks),
-                register: next,
-            }
-        }
-    }
+    ordered(k, Sweep::Mark((n % 256) as u8))
 }

@@ -1,20 +1,20 @@
-// Sweeps over all capabilities in rising number. Each is one loop over leaves that take single capabilities; the register stays in one local.
+// The sweep over all capabilities in rising number: one loop over leaves that take single capabilities.
 ghost use mathlib.Core.Path.{_≡_};
 ghost use mathlib.Core.Bool.{cond, _||_};
 ghost use Prim.Native.Nat.{min};
 ghost use lib.Bits.{bitAnd};
 ghost use lib.ListN.{length};
-ghost use Rattle.masks.specs.Tests.{rising};
-ghost use Rattle.model.specs.State.{blankCapability};
-ghost use Rattle.model.specs.Setters.{withRevoked, withUseLimit, withPermissions, withCapabilities};
-ghost use Rattle.model.specs.Sweeps.{limitOne};
-ghost use Rattle.model.specs.Administration.{cutPermissions};
-ghost use Rattle.revocation.specs.Sweeping.{parentPlace, parentRevoked, parentLimit, parentGrants, roleGrants, oneIf, Marks};
+ghost use Rattle.model.specs.Requests.{effectOf};
+ghost use Rattle.model.specs.Setters.{withRevoked, withUseLimit, withPermissions};
+ghost use Rattle.revocation.specs.Sweeping.{parentPlace, parentRevoked, parentLimit, parentGrants, roleGrants, oneIf, sweptOne, rolesAfter, valueOf, sweptBy};
 use crate::columns::permissions_of;
 use masks::join;
+use model::Answer;
 use model::Capability;
 use model::Origin;
 use model::Register;
+use model::Reply;
+use model::Role;
 
 // Where the capability stands that is the origin; for a role any place serves.
 pub fn parent_of(o: Origin) -> u8
@@ -54,34 +54,6 @@ pub fn one_if(test: bool) -> u32
     if test { 1 } else { 0 }
 }
 
-// A register after revoke's sweep, and the number of new marks.
-pub struct Swept {
-    pub register: Register,
-    pub marks: u32,
-}
-
-pub fn mark_all(r: Register, n: usize) -> Swept
-    ensures { λ q. ⌜ Marks r n q ⌝ }
-{
-    let mut next = r;
-    let mut marks: u32 = 0;
-    let mut i: usize = 0;
-    while i < 256 {
-        let c = next.capabilities[i];
-        let o = c.origin;
-        let k = parent_of(o);
-        let parent = next.capabilities[k as usize];
-        let d = marked(c, i == n, parent);
-        next.capabilities[i] = d;
-        marks = marks + one_if(d.revoked & !c.revoked);
-        i = i + 1;
-    }
-    Swept {
-        register: next,
-        marks: marks,
-    }
-}
-
 // The use limit of the origin: a role's is 65,535.
 pub fn parent_limit(o: Origin, parent: Capability) -> u16
     ensures { λ q. ⌜ q ≡ parentLimit o parent ⌝ }
@@ -112,24 +84,6 @@ pub fn limited(c: Capability, named: bool, limit: u16, parent: Capability) -> Ca
     next
 }
 
-// "Every pass below is then cut to the new limit, never raised."
-pub fn limit_all(r: Register, n: usize, limit: u16) -> Register
-    ensures { λ q. ⌜ q ≡ withCapabilities r (rising blankCapability (limitOne n limit) 256 (r .capabilities)) ⌝ }
-{
-    let mut next = r;
-    let mut i: usize = 0;
-    while i < 256 {
-        let c = next.capabilities[i];
-        let o = c.origin;
-        let k = parent_of(o);
-        let parent = next.capabilities[k as usize];
-        let d = limited(c, i == n, limit, parent);
-        next.capabilities[i] = d;
-        i = i + 1;
-    }
-    next
-}
-
 // What role k grants; there is none past 31.
 pub fn role_grants(permissions: &[u32; 32], k: u8) -> u32
     ensures { λ q. ⌜ q ≡ roleGrants (now (permissions .entry)) k ⌝ }
@@ -155,23 +109,91 @@ pub fn cut(c: Capability, grants: u32) -> Capability
     next
 }
 
-// "cutting own permissions to the origin's authority"
-pub fn cut_all(r: Register) -> Register
-    requires { ⌜ length (r .roles) ≡ 32 ⌝ }
-    ensures { λ q. ⌜ q ≡ withCapabilities r (rising blankCapability (cutPermissions (r .roles)) 256 (r .capabilities)) ⌝ }
+// What a call over the whole tree has done to every capability, in rising number.
+pub enum Sweep {
+    // revoke marks capability n and all below it
+    Mark(u8),
+    // amend gives capability n the use limit: "Every pass below is then cut to the new limit, never raised."
+    Limit(u8, u16),
+    // withdraw leaves role k the permissions p, "cutting own permissions to the origin's authority"
+    Cut(u8, u32),
+}
+
+// Capability c, which has number i, once the sweep has reached it; its parent is as it is by then.
+fn swept(
+    s: Sweep,
+    i: usize,
+    c: Capability,
+    parent: Capability,
+    permissions: &[u32; 32],
+) -> Capability
+    ensures { λ q. ⌜ q ≡ sweptOne s i c parent (now (permissions .entry)) ⌝ }
 {
-    let permissions = permissions_of(r);
+    match s {
+        Sweep::Mark(n) => marked(c, i == n as usize, parent),
+        Sweep::Limit(n, limit) => limited(c, i == n as usize, limit, parent),
+        Sweep::Cut(_, _) => {
+            let o = c.origin;
+            let grants = parent_grants(permissions, o, parent);
+            cut(c, grants)
+        }
+    }
+}
+
+// The roles that the sweep goes by.
+fn roles_after(roles: [Role; 32], s: Sweep) -> [Role; 32]
+    ensures { λ q. ⌜ q ≡ rolesAfter roles s ⌝ }
+{
+    match s {
+        Sweep::Mark(_) => roles,
+        Sweep::Limit(_, _) => roles,
+        Sweep::Cut(k, p) => {
+            let at = (k % 32) as usize;
+            let mut x = roles[at];
+            x.permissions = p;
+            let mut next = roles;
+            next[at] = x;
+            next
+        }
+    }
+}
+
+// The value of the call: the new marks, the limit, or 0.
+fn value_of(s: Sweep, marks: u32) -> u32
+    ensures { λ q. ⌜ q ≡ valueOf s marks ⌝ }
+{
+    match s {
+        Sweep::Mark(_) => marks,
+        Sweep::Limit(_, limit) => limit as u32,
+        Sweep::Cut(_, _) => 0,
+    }
+}
+
+// One sweep over all capabilities; the register is one local.
+pub fn sweep_all(r: Register, s: Sweep) -> Reply
+    requires { ⌜ length (r .roles) ≡ 32 ⌝ }
+    ensures { λ q. ⌜ effectOf q ≡ sweptBy r s ⌝ }
+{
+    let before = r.roles;
+    let roles = roles_after(before, s);
+    let permissions = permissions_of(roles);
     let mut next = r;
+    next.roles = roles;
+    let mut marks: u32 = 0;
     let mut i: usize = 0;
     while i < 256 {
         let c = next.capabilities[i];
         let o = c.origin;
         let k = parent_of(o);
-        let above = next.capabilities[k as usize];
-        let grants = parent_grants(&permissions, o, above);
-        let d = cut(c, grants);
+        let parent = next.capabilities[k as usize];
+        let d = swept(s, i, c, parent, &permissions);
         next.capabilities[i] = d;
+        marks = marks + one_if(d.revoked & !c.revoked);
         i = i + 1;
     }
-    next
+    let value = value_of(s, marks);
+    Reply {
+        answer: Answer::Value(value),
+        register: next,
+    }
 }

@@ -3,16 +3,16 @@ ghost use mathlib.Core.Path.{_≡_};
 ghost use lib.Dec.{T};
 ghost use Rattle.model.specs.Rules.{wellFormed};
 ghost use Rattle.model.specs.Calls.{settled, withdraw};
-ghost use Rattle.model.specs.Requests.{effectOf};
 ghost use Rattle.slots.specs.Checks.{checked, firstNumber};
 ghost use Rattle.revocation.specs.Guards.{withdrawGuards};
-use crate::sweeps::cut_all;
+ghost use Rattle.revocation.specs.Sweeping.{orderEffect};
+use crate::orders::Order;
+use crate::orders::ordered;
+use crate::sweeps::Sweep;
 use masks::excluding32;
 use masks::member;
-use model::Answer;
 use model::Refusal;
 use model::Register;
-use model::Reply;
 use model::Role;
 use slots::checks::Check;
 use slots::checks::first;
@@ -26,28 +26,12 @@ pub fn withdraw_check(x: Role, role: u32, permission: u32) -> Check
     first(!((role < 32) & (permission < 32)), Refusal::Range, k)
 }
 
-pub fn withdraw_core(r: Register, role: u32, permission: u32) -> Reply
+pub fn withdraw_order(r: Register, role: u32, permission: u32) -> Order
     requires { ⌜ T (wellFormed r) ⌝ }
-    ensures { λ q. ⌜ effectOf q ≡ settled r (withdraw role permission) ⌝ }
+    ensures { λ q. ⌜ orderEffect r q ≡ settled r (withdraw role permission) ⌝ }
 {
-    let at = (role % 32) as usize;
-    let x = r.roles[at];
+    let x = r.roles[(role % 32) as usize];
     let k = withdraw_check(x, role, permission);
-    match k {
-        Check::Refuse(why) => Reply {
-            answer: Answer::Refused(why),
-            register: r,
-        },
-        Check::Pass => {
-            let mut y = x;
-            y.permissions = excluding32(x.permissions, permission % 32);
-            let mut next = r;
-            next.roles[at] = y;
-            let swept = cut_all(next);
-            Reply {
-                answer: Answer::Value(0),
-                register: swept,
-            }
-        }
-    }
+    let left = excluding32(x.permissions, permission % 32);
+    ordered(k, Sweep::Cut((role % 32) as u8, left))
 }

@@ -3,7 +3,7 @@
 pub fn play_input() {
     let mut input = [0u8; 32769];
     let n = io::read_full(0, &mut input);
-    let mut out = [0u8; 458752];
+    let mut out = [0u8; 163840];
     let k = answer(&input[..n], &mut out);
     emit(&out, k);
 }

@@ -1,6 +1,6 @@
 -- `batch::apply_formed` meets its contract.
 use borrow.Author.Needs.{needs}
-use mathlib.Core.Path.{_≡_, refl, ap, _∙_}
+use mathlib.Core.Path.{_≡_, refl, sym, ap, _∙_}
 use Prim.Native.Nat.{_-_, _≤_}
 use native.Mathlib.Omega.{arith}
 use lib.ListN.{length, getD, length-set}
@@ -8,9 +8,11 @@ use Rattle.model.specs.Calls.{settled}
 use Rattle.model.specs.Requests.{effectOf}
 use Rattle.model.proofs.Rules.{kept→}
 use Rattle.slots.specs.Slots.{put, lifted, ruledOf}
+use Rattle.revocation.specs.Sweeping.{orderEffect}
 use Rattle.calls.proofs.Columns.{column-put}
 use Rattle.calls.proofs.Commits.{placed, commit}
 use Rattle.calls.proofs.Tasks.{called, fits}
+use Rattle.batch.specs.Batch.{itemCall}
 use Rattle.batch.proofs.Laws.{noItem, Playing, playing-start, playing-more, playing-done}
 use Rattle.batch.proofs.apply_formed.Statement.{statement}
 use Rattle.batch.proofs.apply_formed.Tie as tie
@@ -23,9 +25,10 @@ abbrev μ-loop : tie.MeasureT-loop
 
 loop-holds : tie.Need-loop-holds Inv-loop μ-loop
 loop-holds c =
-    let a = c .before .before .args in (
+    let s = c .before .before .before in
+    let a = s .args in (
       omega arith,
-      playing-start (a .start) (a .t2) (a .n) _ _ (c .before .before .pre .1) (search needs) (c .before .before .pre .0)
+      playing-start (a .start) (a .t2) (a .n) _ _ (s .pre .1) (search needs) (s .pre .0)
           (c .before .permissions-of .ensures) (search needs) (search needs) (c .no-answers .ensures),
     )
 
@@ -51,7 +54,7 @@ loop-again c =
     let asked = task .before .before in
     let test = asked .before .before in
     let l = test .before .loop in
-    let a = test .before .before .before .before .args in
+    let a = test .before .before .before .before .before .args in
     let k = l .inv .1 in
     let m = names .names-of .result in
     let at = capability .capability-place .result in
@@ -71,27 +74,50 @@ loop-again c =
           (length-set (l .permissions) _ _ ∙ k .columns),
     )
 
-apply-trusted-requires : tie.Need-apply-trusted-requires Inv-loop μ-loop
-apply-trusted-requires c κs = c .before .before .before .before .loop .inv .1 .formed
+-- a call over the whole tree
+order-of-requires : tie.Need-order-of-requires Inv-loop μ-loop
+order-of-requires c κs = c .before .before .before .before .before .before .loop .inv .1 .formed
+
+orders : (c : tie.After-order-of Inv-loop μ-loop) →
+    let l = c .before .before .before .before .before .before .before .loop in
+    orderEffect (l .r) (c .order-of .result) ≡ settled (l .r) (itemCall (getD (c .before .before .before .before .before .before .before .before .before .before .before .args .t2) (l .i) noItem))
+orders c = c .order-of .ensures ∙ ap (settled (c .before .before .before .before .before .before .before .loop .r)) (called (getD (c .before .before .before .before .before .before .before .before .before .before .before .args .t2) (c .before .before .before .before .before .before .before .loop .i) noItem .request) _ _ (c .before .before .before .before .task-of .ensures) (c .before .before .task2 .given .1))
 
 loop-less-2 : tie.Need-loop-less-2 Inv-loop μ-loop
-loop-less-2 c = omega (arith, c .before .before .before .before .before .before .loop-test .taken)
+loop-less-2 c = omega (arith, c .before .before .before .before .before .before .before .before .before .loop-test .taken)
 
--- a call over the whole tree
 loop-again-2 : tie.Need-loop-again-2 Inv-loop μ-loop
 loop-again-2 c =
-    let called = c .before .before in
-    let test = called .before .before .before .before in
+    let test = c .before .before .before .before .before .before .before .before .before in
     let l = test .before .loop in
-    let a = test .before .before .before .before .args in (
+    let k = l .inv .1 in
+    let a = test .before .before .before .before .before .args in (
       omega (arith, test .loop-test .taken),
-      playing-more (a .start) (a .t2) (a .n) (l .r) (l .permissions) (l .answers) (l .i) (l .inv .1)
-          (effectOf (called .apply-trusted .result)) (c .permissions-of2 .result) _ (test .loop-test .taken) (called .apply-trusted .ensures) refl (c .permissions-of2 .ensures) (search needs),
+      playing-more (a .start) (a .t2) (a .n) (l .r) (l .permissions) (l .answers) (l .i) k _ _ _ (test .loop-test .taken)
+          (ap (orderEffect (l .r)) (sym (c .before .order .given .1)) ∙ orders (c .before .before .before)) refl (k .column) (k .columns),
+    )
+
+-- the register swept
+sweep-all-requires : tie.Need-sweep-all-requires Inv-loop μ-loop
+sweep-all-requires c κs = let l = c .before .before .before .before .before .before .before .before .before .before .loop in kept→ (l .r) (l .inv .1 .formed) .roles .amount
+
+loop-less-3 : tie.Need-loop-less-3 Inv-loop μ-loop
+loop-less-3 c = omega (arith, c .before .before .before .before .before .before .before .before .before .before .before .before .before .loop-test .taken)
+
+loop-again-3 : tie.Need-loop-again-3 Inv-loop μ-loop
+loop-again-3 c =
+    let swept = c .before .before .before in
+    let test = swept .before .before .before .before .before .before .before .before .before .before in
+    let l = test .before .loop in
+    let a = test .before .before .before .before .before .args in (
+      omega (arith, test .loop-test .taken),
+      playing-more (a .start) (a .t2) (a .n) (l .r) (l .permissions) (l .answers) (l .i) (l .inv .1) (effectOf (swept .sweep-all .result)) (c .permissions-of2 .result) _ (test .loop-test .taken)
+          (swept .sweep-all .ensures ∙ ap (orderEffect (l .r)) (sym (swept .before .before .order2 .given .1)) ∙ orders (swept .before .before .before .before)) refl (c .permissions-of2 .ensures) (search needs),
     )
 
 returns : tie.Need-returns Inv-loop μ-loop
 returns c =
-    let a = c .before .before .before .before .args in
+    let a = c .before .before .before .before .before .args in
     let l = c .before .loop in
     playing-done (a .start) (a .t2) (a .n) (l .r) (l .permissions) (l .answers) (l .i) (l .inv .1) (omega (arith, c .loop-test .left))
 
@@ -113,8 +139,14 @@ apply-formed-spec =
     array-set-from-answers
     loop-less
     loop-again
-    apply-trusted-requires
-    (λ c κs. search needs) (λ c. search needs) (λ c. search needs)
+    (λ c. search needs)
+    order-of-requires
+    (λ c. search needs) (λ c. search needs) (λ c. search needs)
     loop-less-2
     loop-again-2
+    (λ c. search needs)
+    sweep-all-requires
+    (λ c κs. search needs) (λ c. search needs) (λ c. search needs)
+    loop-less-3
+    loop-again-3
     returns)

@@ -1,0 +1,15 @@
+-- A call that is refused or sweeps, by its check.
+use mathlib.Core.Path.{_≡_, refl}
+use Rattle.model.specs.declared.Refusal.{Refusal}
+use Rattle.model.specs.declared.Register.{Register}
+use Rattle.model.specs.Rulings.{refused, Effect}
+use Rattle.model.specs.Requests.{refusalNumber}
+use Rattle.slots.specs.declared.checks.Check.{Check}
+use Rattle.slots.specs.declared.checks.Check.the-variants.{Pass, Refuse}
+use Rattle.revocation.specs.declared.sweeps.Sweep.{Sweep}
+use Rattle.revocation.specs.Sweeping.{sweptBy, orderEffect, orderedBy}
+
+pub order-by : (r : Register) (e : Effect) (k : Check) (s : Sweep) → ((why : Refusal) → k ≡ Refuse why → record { answer = refused (refusalNumber why); after = r } ≡ e)
+    → (k ≡ Pass → sweptBy r s ≡ e) → orderEffect r (orderedBy k s) ≡ e
+order-by r e Pass s f g = g refl
+order-by r e (Refuse why) s f g = f why refl

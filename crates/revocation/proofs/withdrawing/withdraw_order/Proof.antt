@@ -1,0 +1,22 @@
+-- `revocation::withdrawing::withdraw_order` meets its contract.
+use borrow.Author.Needs.{needs}
+use mathlib.Core.Path.{ap, _∙_}
+use Prim.Native.Nat.{_%_}
+use Rattle.revocation.specs.declared.sweeps.Sweep.the-variants.{Cut}
+use Rattle.revocation.specs.Sweeping.{orderEffect}
+use Rattle.revocation.proofs.OrderLaws.{order-by}
+use Rattle.revocation.proofs.WithdrawLaws.{withdraw-refused, withdraw-passed}
+use Rattle.revocation.proofs.withdrawing.withdraw_order.Statement.{statement}
+use Rattle.revocation.proofs.withdrawing.withdraw_order.Tie as tie
+
+returns : tie.Need-returns
+returns c =
+    let s = c .before .before .before .before in
+    let k = c .before .before in
+    ap (orderEffect (s .args .t1)) (c .ordered .ensures)
+    ∙ order-by (s .args .t1) _ (k .withdraw-check .result) (Cut (s .args .role % 32) (c .before .excluding32 .result))
+    (λ why q. withdraw-refused (s .args .t1) (s .args .role) (s .args .permission) _ (k .withdraw-check .ensures) q)
+    (λ q. withdraw-passed (s .args .t1) (s .args .role) (s .args .permission) _ (k .withdraw-check .ensures) _ (c .before .excluding32 .ensures) q)
+
+pub withdraw-order-spec : {M : Type 1} → statement M
+withdraw-order-spec = tie.close (tie.spec (λ c. search needs) (λ c. search needs) (λ c. search needs) (λ c κs. search needs) (λ c κs. search needs) (λ c. search needs) (λ c κs. search needs) returns)
