@@ -16,16 +16,18 @@ use model::Refusal;
 use model::Register;
 use model::Request;
 use places::Task;
-use places::capability_place;
+use places::capability_at;
 use places::names_of;
-use places::parent_place;
-use places::role_place;
+use places::parent_at;
+use places::role_at;
+use places::seen;
+use places::session_at;
 use places::task_of;
+use places::user_at;
 use revocation::columns::permissions_of;
 use revocation::orders::Order;
 use revocation::sweeps::sweep_all;
 use rules::well_formed;
-use slots::Slots;
 
 // One request of a list.
 pub struct Item {
@@ -97,28 +99,16 @@ fn apply_formed(start: Register, items: [Item; 64], n: usize) -> Played
         match task {
             Task::One(q) => {
                 let m = names_of(q);
-                let follow = m.follow;
-                let un = (m.user % 64) as usize;
-                let sn = (m.session % 64) as usize;
-                let session = r.sessions[sn];
-                let on = session.on;
-                let cn = (capability_place(follow, m.capability, on, r.count) % 256) as usize;
-                let capability = r.capabilities[cn];
-                let origin = capability.origin;
-                let rn = (role_place(follow, m.role, on, origin) % 32) as usize;
-                let pn = (parent_place(follow, m.parent, origin) % 256) as usize;
-                let role = r.roles[rn];
-                let parent = r.capabilities[pn];
-                let v = Slots {
-                    clock: r.clock,
-                    enrolled: r.enrolled,
-                    count: r.count,
-                    domain: r.domains[un],
-                    role: role,
-                    parent: parent,
-                    capability: capability,
-                    session: session,
-                };
+                let sn = session_at(m);
+                let s = r.sessions[sn];
+                let cn = capability_at(m, s, r.count);
+                let c = r.capabilities[cn];
+                let rn = role_at(m, s, c);
+                let pn = parent_at(m, c);
+                let x = r.roles[rn];
+                let p = r.capabilities[pn];
+                let un = user_at(m);
+                let v = seen(r.clock, r.enrolled, r.count, r.domains[un], x, p, c, s);
                 let d = decide(v, &permissions, q);
                 let w = d.slots;
                 r.clock = w.clock;

@@ -14,6 +14,7 @@ use Rattle.model.specs.State.{capabilityAt, sessionAt}
 use Rattle.model.specs.Rules.{wellFormed}
 use Rattle.model.specs.Calls.{settled}
 use Rattle.model.specs.Requests.{callOf}
+use Rattle.slots.specs.declared.Slots.{Slots}
 use Rattle.slots.specs.declared.Decision.{Decision}
 use Rattle.slots.specs.Slots.{Places, look, ruledOf, lifted}
 use Rattle.slots.proofs.TermLaws.{Column}
@@ -83,27 +84,26 @@ committed r p column q d k h t e ed =
     ∙ ap (λ (p : Places). lifted r p (decideOf (look r p) column q)) e
     ∙ one-commit r column q k h t
 
--- the same by the contracts of the parts
-module _ (r : Register) (m : Names) (at from up : ℕ) where
-  -- the places as code computes them
+-- the same by the contracts of the parts: where the code found the elements
+module _ (r : Register) (m : Names) (un sn cn rn pn : ℕ) where
   abbrev pub placed : Places
-  placed = record { user = m .user % 64; role = from % 32; parent = up % 256; capability = at % 256; session = m .session % 64 }
+  placed = record { user = un; role = rn; parent = pn; capability = cn; session = sn }
 
-  pub found : (q : Request) → m ≡ namesOf q
-      → at ≡ capabilityPlace (m .follow) (m .capability) ((sessionAt (r .sessions) (m .session % 64)) .on) (r .count)
-      → from ≡ rolePlace (m .follow) (m .role) ((sessionAt (r .sessions) (m .session % 64)) .on) ((capabilityAt (r .capabilities) (at % 256)) .origin)
-      → up ≡ parentPlace (m .follow) (m .parent) ((capabilityAt (r .capabilities) (at % 256)) .origin)
-      → placed ≡ placesIn r (namesOf q)
-  found q em ea ef eu = same ∙ ap (placesIn r) em
+  -- each place is the one that the names say
+  pub record AtPlaces : Type 0 where
+    pub user : un ≡ m .user % 64
+    pub session : sn ≡ m .session % 64
+    pub capability : cn ≡ capabilityPlace (m .follow) (m .capability) ((sessionAt (r .sessions) sn) .on) (r .count) % 256
+    pub role : rn ≡ rolePlace (m .follow) (m .role) ((sessionAt (r .sessions) sn) .on) ((capabilityAt (r .capabilities) cn) .origin) % 32
+    pub parent : pn ≡ parentPlace (m .follow) (m .parent) ((capabilityAt (r .capabilities) cn) .origin) % 256
+
+  pub found : (q : Request) → m ≡ namesOf q → AtPlaces → placed ≡ placesIn r (namesOf q)
+  found q em f = same ∙ ap (placesIn r) em
     where
       same : placed ≡ placesIn r m
-      same = rw (ef, eu, ea) refl
+      same = rw (f .role, f .parent, f .capability, f .session, f .user) refl
 
-  pub commit : (column : List ℕ) (q : Request) (d : Decision) → T (wellFormed r) → Column column (r .roles) → T (isOne q)
-      → m ≡ namesOf q
-      → at ≡ capabilityPlace (m .follow) (m .capability) ((sessionAt (r .sessions) (m .session % 64)) .on) (r .count)
-      → from ≡ rolePlace (m .follow) (m .role) ((sessionAt (r .sessions) (m .session % 64)) .on) ((capabilityAt (r .capabilities) (at % 256)) .origin)
-      → up ≡ parentPlace (m .follow) (m .parent) ((capabilityAt (r .capabilities) (at % 256)) .origin)
-      → ruledOf d ≡ decideOf (look r placed) column q
-      → lifted r placed (ruledOf d) ≡ settled r (callOf q)
-  commit column q d k h t em ea ef eu ed = committed r placed column q d k h t (found q em ea ef eu) ed
+  pub commit : (column : List ℕ) (q : Request) (v : Slots) (d : Decision) → T (wellFormed r) → Column column (r .roles) → T (isOne q)
+      → m ≡ namesOf q → AtPlaces → v ≡ look r placed → ruledOf d ≡ decideOf v column q → lifted r placed (ruledOf d) ≡ settled r (callOf q)
+  commit column q v d k h t em f ev ed =
+      committed r placed column q d k h t (found q em f) (ed ∙ ap (λ (w : Slots). decideOf w column q) ev)

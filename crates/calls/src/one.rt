@@ -24,10 +24,13 @@ use model::Refusal;
 use model::Register;
 use model::Reply;
 use model::Request;
-use places::capability_place;
+use places::capability_at;
 use places::names_of;
-use places::parent_place;
-use places::role_place;
+use places::parent_at;
+use places::role_at;
+use places::seen;
+use places::session_at;
+use places::user_at;
 use sessions::decide_check;
 use sessions::decide_close;
 use sessions::decide_open;
@@ -104,18 +107,15 @@ pub fn view(r: Register, q: Request) -> Seen
     ensures { λ v. ⌜ (placesOf (v .at) ≡ placesIn r (namesOf q)) × (v .slots ≡ look r (placesOf (v .at))) × Within (v .at) ⌝ }
 {
     let m = names_of(q);
-    let follow = m.follow;
-    let un = (m.user % 64) as usize;
-    let sn = (m.session % 64) as usize;
-    let session = r.sessions[sn];
-    let on = session.on;
-    let cn = (capability_place(follow, m.capability, on, r.count) % 256) as usize;
-    let capability = r.capabilities[cn];
-    let origin = capability.origin;
-    let rn = (role_place(follow, m.role, on, origin) % 32) as usize;
-    let pn = (parent_place(follow, m.parent, origin) % 256) as usize;
-    let role = r.roles[rn];
-    let parent = r.capabilities[pn];
+    let un = user_at(m);
+    let sn = session_at(m);
+    let s = r.sessions[sn];
+    let cn = capability_at(m, s, r.count);
+    let c = r.capabilities[cn];
+    let rn = role_at(m, s, c);
+    let pn = parent_at(m, c);
+    let x = r.roles[rn];
+    let p = r.capabilities[pn];
     Seen {
         at: Indices {
             user: un,
@@ -124,16 +124,7 @@ pub fn view(r: Register, q: Request) -> Seen
             capability: cn,
             session: sn,
         },
-        slots: Slots {
-            clock: r.clock,
-            enrolled: r.enrolled,
-            count: r.count,
-            domain: r.domains[un],
-            role: role,
-            parent: parent,
-            capability: capability,
-            session: session,
-        },
+        slots: seen(r.clock, r.enrolled, r.count, r.domains[un], x, p, c, s),
     }
 }
 
@@ -170,11 +161,11 @@ pub fn apply_one(r: Register, permissions: &[u32; 32], q: Request) -> Reply
     requires { ⌜ T (isOne q) ⌝ }
     ensures { λ z. ⌜ effectOf z ≡ settled r (callOf q) ⌝ }
 {
-    let seen = view(r, q);
-    let v = seen.slots;
+    let looked = view(r, q);
+    let v = looked.slots;
     let d = decide(v, permissions, q);
     let w = d.slots;
-    let at = seen.at;
+    let at = looked.at;
     let next = put_back(r, at, w);
     let answer = d.answer;
     Reply {

@@ -23,13 +23,15 @@ use model::Refusal;
 use model::Register;
 use model::Request;
 use places::Task;
-use places::capability_place;
+use places::capability_at;
 use places::names_of;
-use places::parent_place;
-use places::role_place;
+use places::parent_at;
+use places::role_at;
+use places::seen;
+use places::session_at;
 use places::task_of;
+use places::user_at;
 use revocation::columns::permissions_of;
-use slots::Slots;
 use text::answers::refusal_number;
 use text::parts::count_before;
 use text::requests::parse;
@@ -86,31 +88,19 @@ fn answer_one(area: &mut [u8], r: Register, q: Request) -> i64
     requires { ⌜ T (wellFormed r) × T (isOne q) ⌝ }
     ensures { λ z. ⌜ (z ≡ returned (performed (length (now (area .entry))) r (callOf q))) × (now (area .exit) ≡ bufferAfter (performed (length (now (area .entry))) r (callOf q)) (now (area .entry))) ⌝ }
 {
+    let m = names_of(q);
     let roles = r.roles;
     let permissions = permissions_of(roles);
-    let m = names_of(q);
-    let follow = m.follow;
-    let un = (m.user % 64) as usize;
-    let sn = (m.session % 64) as usize;
-    let session = r.sessions[sn];
-    let on = session.on;
-    let cn = (capability_place(follow, m.capability, on, r.count) % 256) as usize;
-    let capability = r.capabilities[cn];
-    let origin = capability.origin;
-    let rn = (role_place(follow, m.role, on, origin) % 32) as usize;
-    let pn = (parent_place(follow, m.parent, origin) % 256) as usize;
-    let role = r.roles[rn];
-    let parent = r.capabilities[pn];
-    let v = Slots {
-        clock: r.clock,
-        enrolled: r.enrolled,
-        count: r.count,
-        domain: r.domains[un],
-        role: role,
-        parent: parent,
-        capability: capability,
-        session: session,
-    };
+    let sn = session_at(m);
+    let s = r.sessions[sn];
+    let cn = capability_at(m, s, r.count);
+    let c = r.capabilities[cn];
+    let rn = role_at(m, s, c);
+    let pn = parent_at(m, c);
+    let x = r.roles[rn];
+    let p = r.capabilities[pn];
+    let un = user_at(m);
+    let v = seen(r.clock, r.enrolled, r.count, r.domains[un], x, p, c, s);
     let d = decide(v, &permissions, q);
     let answer = d.answer;
     match answer {

@@ -7,8 +7,12 @@ use Rattle.model.specs.declared.Named.{Named}
 use Rattle.model.specs.declared.Named.the-variants.{Role as nameRole, Capability as nameCapability}
 use Rattle.model.specs.declared.Request.{Request}
 use Rattle.model.specs.declared.Request.the-variants.{Enrol, Found, Grant, Withdraw, Appoint, Dismiss, Clock, Create, Allow, Lend, Hand, Open, Check, Amend, Revoke, Close, Same}
+use Rattle.model.specs.declared.Role.{Role}
+use Rattle.model.specs.declared.Capability.{Capability}
+use Rattle.model.specs.declared.Session.{Session}
 use Rattle.model.specs.declared.Register.{Register}
 use Rattle.model.specs.State.{capabilityAt, sessionAt}
+use Rattle.slots.specs.declared.Slots.{Slots}
 use Rattle.slots.specs.Slots.{Places}
 use Rattle.places.specs.declared.Follow.{Follow}
 use Rattle.places.specs.declared.Follow.the-variants.{Nothing, Origin as TheOrigin, Session as TheSession, Count}
@@ -105,4 +109,18 @@ placesIn r m =
       parent = parentPlace (m .follow) (m .parent) origin % 256;
       capability = n;
       session = m .session % 64;
+    }
+
+-- the elements as they were read
+abbrev pub seenSlots : (clock enrolled count domain : ℕ) → Role → (parent capability : Capability) → Session → Slots
+seenSlots clock enrolled count domain role parent capability session =
+    record {
+      clock = clock;
+      enrolled = enrolled;
+      count = count;
+      domain = domain;
+      role = role;
+      parent = parent;
+      capability = capability;
+      session = session;
     }

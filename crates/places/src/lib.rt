@@ -1,10 +1,15 @@
 // Where the elements stand that a request names: numbers from the request, or followed from what was read.
 ghost use mathlib.Core.Path.{_≡_};
-ghost use Rattle.places.specs.Requests.{taskOf, namesWith, roleIn, capabilityIn, namesOf, roleHeld, capabilityHeld, capabilityPlace, rolePlace, parentPlace};
+ghost use Prim.Native.Nat.{_%_, _<_};
+ghost use Rattle.places.specs.Requests.{taskOf, namesWith, roleIn, capabilityIn, namesOf, roleHeld, capabilityHeld, capabilityPlace, rolePlace, parentPlace, seenSlots};
+use model::Capability;
 use model::Change;
 use model::Named;
 use model::Origin;
 use model::Request;
+use model::Role;
+use model::Session;
+use slots::Slots;
 
 // What the places that a request leaves open are followed from: nothing, the capability's origin, what the session is on,
 // or the count, where the new capability goes.
@@ -163,7 +168,7 @@ pub fn capability_held(o: Origin) -> u32
     }
 }
 
-pub fn capability_place(follow: Follow, named: u32, on: Origin, count: u16) -> u32
+fn capability_place(follow: Follow, named: u32, on: Origin, count: u16) -> u32
     ensures { λ z. ⌜ z ≡ capabilityPlace follow named on count ⌝ }
 {
     match follow {
@@ -174,7 +179,7 @@ pub fn capability_place(follow: Follow, named: u32, on: Origin, count: u16) -> u
     }
 }
 
-pub fn role_place(follow: Follow, named: u32, on: Origin, origin: Origin) -> u32
+fn role_place(follow: Follow, named: u32, on: Origin, origin: Origin) -> u32
     ensures { λ z. ⌜ z ≡ rolePlace follow named on origin ⌝ }
 {
     match follow {
@@ -185,7 +190,7 @@ pub fn role_place(follow: Follow, named: u32, on: Origin, origin: Origin) -> u32
     }
 }
 
-pub fn parent_place(follow: Follow, named: u32, origin: Origin) -> u32
+fn parent_place(follow: Follow, named: u32, origin: Origin) -> u32
     ensures { λ z. ⌜ z ≡ parentPlace follow named origin ⌝ }
 {
     match follow {
@@ -193,5 +198,69 @@ pub fn parent_place(follow: Follow, named: u32, origin: Origin) -> u32
         Follow::Origin => capability_held(origin),
         Follow::Session => named,
         Follow::Count => named,
+    }
+}
+
+// Where the user, the session, the capability, the role and the parent stand that a request names, each within the register: the
+// capability by what the session is on, the role and the parent by the capability.
+pub fn user_at(m: Names) -> usize
+    ensures { λ z. ⌜ (z ≡ m .user % 64) × (z < 64) ⌝ }
+{
+    (m.user % 64) as usize
+}
+
+pub fn session_at(m: Names) -> usize
+    ensures { λ z. ⌜ (z ≡ m .session % 64) × (z < 64) ⌝ }
+{
+    (m.session % 64) as usize
+}
+
+pub fn capability_at(m: Names, s: Session, count: u16) -> usize
+    ensures { λ z. ⌜ (z ≡ capabilityPlace (m .follow) (m .capability) (s .on) count % 256) × (z < 256) ⌝ }
+{
+    let follow = m.follow;
+    let on = s.on;
+    (capability_place(follow, m.capability, on, count) % 256) as usize
+}
+
+pub fn role_at(m: Names, s: Session, c: Capability) -> usize
+    ensures { λ z. ⌜ (z ≡ rolePlace (m .follow) (m .role) (s .on) (c .origin) % 32) × (z < 32) ⌝ }
+{
+    let follow = m.follow;
+    let on = s.on;
+    let origin = c.origin;
+    (role_place(follow, m.role, on, origin) % 32) as usize
+}
+
+pub fn parent_at(m: Names, c: Capability) -> usize
+    ensures { λ z. ⌜ (z ≡ parentPlace (m .follow) (m .parent) (c .origin) % 256) × (z < 256) ⌝ }
+{
+    let follow = m.follow;
+    let origin = c.origin;
+    (parent_place(follow, m.parent, origin) % 256) as usize
+}
+
+// The elements read at these places, with the clock, the enrolled users and the count.
+pub fn seen(
+    clock: u32,
+    enrolled: u64,
+    count: u16,
+    domain: u8,
+    role: Role,
+    parent: Capability,
+    capability: Capability,
+    session: Session,
+) -> Slots
+    ensures { λ z. ⌜ z ≡ seenSlots clock enrolled count domain role parent capability session ⌝ }
+{
+    Slots {
+        clock,
+        enrolled,
+        count,
+        domain,
+        role,
+        parent,
+        capability,
+        session,
     }
 }

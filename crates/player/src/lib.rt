@@ -12,18 +12,20 @@ use calls::one::decide;
 use model::Answer;
 use model::Refusal;
 use model::Register;
+use places::capability_at;
 use places::capability_held;
-use places::capability_place;
 use places::names_of;
-use places::parent_place;
+use places::parent_at;
+use places::role_at;
 use places::role_held;
-use places::role_place;
+use places::seen;
+use places::session_at;
+use places::user_at;
 use revocation::columns::permissions_of;
 use revocation::orders::Order;
 use revocation::sweeps::sweep_all;
 use rules::well_formed;
 use sessions::answer_check;
-use slots::Slots;
 use text::answers::print;
 use text::parts::count_before;
 
@@ -54,22 +56,11 @@ fn play(start: Register, input: &[u8], out: &mut [u8]) -> usize
                 to += n;
             }
             Step::Check(number, permission) => {
-                let sn = (number % 64) as usize;
-                let session = r.sessions[sn];
-                let on = session.on;
-                let cn = (capability_held(on) % 256) as usize;
-                let rn = (role_held(on) % 32) as usize;
-                let role = r.roles[rn];
-                let c = r.capabilities[cn];
-                let answer = answer_check(
-                    r.clock,
-                    session,
-                    role,
-                    c,
-                    &permissions,
-                    number,
-                    permission,
-                );
+                let s = r.sessions[(number % 64) as usize];
+                let on = s.on;
+                let x = r.roles[(role_held(on) % 32) as usize];
+                let c = r.capabilities[(capability_held(on) % 256) as usize];
+                let answer = answer_check(r.clock, s, x, c, &permissions, number, permission);
                 let n = print(&mut out[to..], answer);
                 to += n;
             }
@@ -94,28 +85,16 @@ fn play(start: Register, input: &[u8], out: &mut [u8]) -> usize
             }
             Step::One(q) => {
                 let m = names_of(q);
-                let follow = m.follow;
-                let un = (m.user % 64) as usize;
-                let sn = (m.session % 64) as usize;
-                let session = r.sessions[sn];
-                let on = session.on;
-                let cn = (capability_place(follow, m.capability, on, r.count) % 256) as usize;
-                let capability = r.capabilities[cn];
-                let origin = capability.origin;
-                let rn = (role_place(follow, m.role, on, origin) % 32) as usize;
-                let pn = (parent_place(follow, m.parent, origin) % 256) as usize;
-                let role = r.roles[rn];
-                let parent = r.capabilities[pn];
-                let v = Slots {
-                    clock: r.clock,
-                    enrolled: r.enrolled,
-                    count: r.count,
-                    domain: r.domains[un],
-                    role: role,
-                    parent: parent,
-                    capability: capability,
-                    session: session,
-                };
+                let sn = session_at(m);
+                let s = r.sessions[sn];
+                let cn = capability_at(m, s, r.count);
+                let c = r.capabilities[cn];
+                let rn = role_at(m, s, c);
+                let x = r.roles[rn];
+                let pn = parent_at(m, c);
+                let p = r.capabilities[pn];
+                let un = user_at(m);
+                let v = seen(r.clock, r.enrolled, r.count, r.domains[un], x, p, c, s);
                 let d = decide(v, &permissions, q);
                 let answer = d.answer;
                 let n = print(&mut out[to..], answer);

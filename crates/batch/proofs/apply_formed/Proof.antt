@@ -32,45 +32,56 @@ loop-holds c =
           (c .before .permissions-of .ensures) (search needs) (search needs) (c .no-answers .ensures),
     )
 
+-- the places are within the register
+mul-z : tie.Need-mul-z Inv-loop μ-loop
+mul-z c = omega (arith, c .before .before .before .before .before .before .before .before .before .before .before .before .before .before .capability-at .ensures .1)
+
+element-set-from-z : tie.Need-element-set-from-z Inv-loop μ-loop
+element-set-from-z c = omega (arith, c .before .before .before .before .before .before .before .before .before .before .before .before .before .before .capability-at .ensures .1)
+
+mul-s-2 : tie.Need-mul-s-2 Inv-loop μ-loop
+mul-s-2 c = omega (arith, c .before .before .before .before .before .before .before .before .before .before .before .before .before .before .before .before .before .session-at .ensures .1)
+
+element-set-from-s : tie.Need-element-set-from-s Inv-loop μ-loop
+element-set-from-s c = omega (arith, c .before .before .before .before .before .before .before .before .before .before .before .before .before .before .before .before .before .session-at .ensures .1)
+
 mul-answers : tie.Need-mul-answers Inv-loop μ-loop
-mul-answers c = let test = c .before .before .before .before .before .before .before .before .before .before .before .before .before .before .before .before .before .before .before .before .before .before .before in omega (arith, test .loop-test .taken, test .before .loop .inv .1 .within)
+mul-answers c = let test = c .before .before .before .before .before .before .before .before .before .before .before .before .before .before .before .before .before .before .before .before .before .before .before .before in omega (arith, test .loop-test .taken, test .before .loop .inv .1 .within)
 
 array-set-from-answers : tie.Need-array-set-from-answers Inv-loop μ-loop
-array-set-from-answers c = let test = c .before .before .before .before .before .before .before .before .before .before .before .before .before .before .before .before .before .before .before .before .before .before .before in omega (arith, test .loop-test .taken, test .before .loop .inv .1 .within)
+array-set-from-answers c = let test = c .before .before .before .before .before .before .before .before .before .before .before .before .before .before .before .before .before .before .before .before .before .before .before .before in omega (arith, test .loop-test .taken, test .before .loop .inv .1 .within)
 
 loop-less : tie.Need-loop-less Inv-loop μ-loop
-loop-less c = omega (arith, c .before .before .before .before .before .before .before .before .before .before .before .before .before .before .before .before .before .before .before .before .before .before .before .loop-test .taken)
+loop-less c = omega (arith, c .before .before .before .before .before .before .before .before .before .before .before .before .before .before .before .before .before .before .before .before .before .before .before .before .loop-test .taken)
 
 -- a call that changes only elements that it names
 loop-again : tie.Need-loop-again Inv-loop μ-loop
 unfolding put
 loop-again c =
-    let decided = c .before .before .before .before .before in
-    let parent = decided .before .before .before .before .before in
-    let role = parent .before in
-    let capability = role .before .before in
-    let names = capability .before .before .before .before in
-    let task = names .before .before in
+    let d = c .before .before .before .before .before in
+    let user = d .before .before .before .before .user-at in
+    let parent = d .before .before .before .before .before .before .before .parent-at in
+    let role = d .before .before .before .before .before .before .before .before .role-at in
+    let capability = d .before .before .before .before .before .before .before .before .before .before .capability-at in
+    let session = d .before .before .before .before .before .before .before .before .before .before .before .before .session-at in
+    let names = d .before .before .before .before .before .before .before .before .before .before .before .before .before .names-of in
+    let task = d .before .before .before .before .before .before .before .before .before .before .before .before .before .before .before in
     let asked = task .before .before in
     let test = asked .before .before in
     let l = test .before .loop in
     let a = test .before .before .before .before .before .args in
     let k = l .inv .1 in
-    let m = names .names-of .result in
-    let at = capability .capability-place .result in
-    let from = role .role-place .result in
-    let up = parent .parent-place .result in
-    let d = decided .decide .result in
     let request = getD (a .t2) (l .i) noItem .request in
     let roles : length (l .r .roles) ≡ 32 = kept→ (l .r) (k .formed) .roles .amount in
-    let same = commit (l .r) m at from up (l .permissions) (task .task .given .0 .0) d (k .formed) (k .column)
-    (fits request _ _ (asked .task-of .ensures) (task .task .given .1))
-    (names .names-of .ensures) (capability .capability-place .ensures) (role .role-place .ensures) (parent .parent-place .ensures) (decided .decide .ensures) in (
+    let same = commit (l .r) (names .result) (user .result) (session .result) (capability .result) (role .result) (parent .result) (l .permissions) (task .task .given .0 .0) _ (d .decide .result) (k .formed) (k .column)
+    (fits request _ _ (asked .task-of .ensures) (task .task .given .1)) (names .ensures)
+    (record { user = user .ensures .0; session = session .ensures .0; capability = capability .ensures .0; role = role .ensures .0; parent = parent .ensures .0 })
+    (d .before .before .seen .ensures) (d .decide .ensures) in (
       omega (arith, test .loop-test .taken),
-      playing-more (a .start) (a .t2) (a .n) (l .r) (l .permissions) (l .answers) (l .i) k (lifted (l .r) (placed (l .r) m at from up) (ruledOf d)) _ _ (test .loop-test .taken)
+      playing-more (a .start) (a .t2) (a .n) (l .r) (l .permissions) (l .answers) (l .i) k (lifted (l .r) (placed (l .r) (names .result) (user .result) (session .result) (capability .result) (role .result) (parent .result)) (ruledOf (d .decide .result))) _ _ (test .loop-test .taken)
           (same ∙ ap (settled (l .r)) (called request _ _ (asked .task-of .ensures) (task .task .given .1)))
           refl
-          (column-put (l .permissions) (l .r .roles) _ (d .slots .role) (k .column) (k .columns) roles (omega arith))
+          (column-put (l .permissions) (l .r .roles) _ (d .decide .result .slots .role) (k .column) (k .columns) roles (role .ensures .1))
           (length-set (l .permissions) _ _ ∙ k .columns),
     )
 
@@ -130,11 +141,14 @@ apply-formed-spec =
     (λ c κs. search needs) (λ c κs. search needs)
     loop-holds
     (λ c. search needs) (λ c. search needs) (λ c. search needs) (λ c κs. search needs) (λ c. search needs) (λ c κs. search needs)
-    (λ c. search needs) (λ c. search needs) (λ c. search needs) (λ c. search needs) (λ c κs. search needs) (λ c. search needs)
-    (λ c. search needs) (λ c. search needs) (λ c κs. search needs) (λ c. search needs) (λ c κs. search needs) (λ c. search needs)
-    (λ c. search needs) (λ c. search needs) (λ c. search needs) (λ c. search needs) (λ c. search needs) (λ c κs. search needs)
-    (λ c. search needs) (λ c. search needs) (λ c. search needs) (λ c. search needs) (λ c. search needs) (λ c. search needs)
+    (λ c κs. search needs) (λ c. search needs) (λ c. search needs) (λ c κs. search needs) (λ c. search needs) (λ c. search needs)
+    (λ c κs. search needs) (λ c κs. search needs) (λ c. search needs) (λ c. search needs) (λ c. search needs) (λ c. search needs)
+    (λ c κs. search needs) (λ c. search needs) (λ c κs. search needs) (λ c κs. search needs) (λ c. search needs) (λ c. search needs)
     (λ c. search needs) (λ c. search needs) (λ c. search needs) (λ c. search needs) (λ c. search needs)
+    mul-z
+    element-set-from-z
+    mul-s-2
+    element-set-from-s
     mul-answers
     array-set-from-answers
     loop-less

@@ -1,6 +1,5 @@
 -- `fellunqa::answer_one` meets its contract.
 use mathlib.Core.Path.{_≡_, ap, _∙_}
-use native.Mathlib.Omega.{arith}
 use lib.ListN.{length}
 use borrow.Author.Needs.{needs, sfits-of}
 use mir.Syntax.{w64}
@@ -17,48 +16,52 @@ use Rattle.fellunqa.proofs.answer_one.Tie as tie
 
 -- what was decided, put back
 ruled : (c : tie.After-decide) →
-    let start = c .before .before .before .before .before .before .before .before .before .before .before .before .before .before .before in
-    lifted (start .args .t2) (placed (c .before .before .before .before .before .before .before .before .before .before .before .before .before .before .before .args .t2) (c .before .before .before .before .before .before .before .before .before .before .before .before .names-of .result) (c .before .before .before .before .before .before .before .before .capability-place .result) (c .before .before .before .before .before .before .role-place .result) (c .before .before .before .before .before .parent-place .result)) (ruledOf (c .decide .result)) ≡ settled (start .args .t2) (callOf (start .args .q))
+    let a = c .before .before .before .before .before .before .before .before .before .before .before .before .before .before .before .before .before .args in
+    lifted (a .t2) (placed (a .t2) (c .before .before .before .before .before .before .before .before .before .before .before .before .before .before .before .names-of .result) (c .before .before .before .before .user-at .result) (c .before .before .before .before .before .before .before .before .before .before .before .before .session-at .result) (c .before .before .before .before .before .before .before .before .before .before .capability-at .result) (c .before .before .before .before .before .before .before .before .role-at .result) (c .before .before .before .before .before .before .before .parent-at .result)) (ruledOf (c .decide .result))
+    ≡ settled (a .t2) (callOf (a .q))
 ruled c =
-    let m = c .before .before .before .before .before .before .before .before .before .before .before .before .names-of in
-    let at = c .before .before .before .before .before .before .before .before .capability-place in
-    let from = c .before .before .before .before .before .before .role-place in
-    let up = c .before .before .before .before .before .parent-place in
+    let user = c .before .before .before .before .user-at in
+    let parent = c .before .before .before .before .before .before .before .parent-at in
+    let role = c .before .before .before .before .before .before .before .before .role-at in
+    let capability = c .before .before .before .before .before .before .before .before .before .before .capability-at in
+    let session = c .before .before .before .before .before .before .before .before .before .before .before .before .session-at in
     let column = c .before .before .before .before .before .before .before .before .before .before .before .before .before .permissions-of in
-    let start = c .before .before .before .before .before .before .before .before .before .before .before .before .before .before .before in
-    commit (start .args .t2) (m .result) (at .result) (from .result) (up .result) (column .result) (start .args .q) (c .decide .result) (start .pre .0) (column .ensures) (start .pre .1)
-    (m .ensures) (at .ensures) (from .ensures) (up .ensures) (c .decide .ensures)
+    let names = c .before .before .before .before .before .before .before .before .before .before .before .before .before .before .before .names-of in
+    let start = c .before .before .before .before .before .before .before .before .before .before .before .before .before .before .before .before .before in
+    commit (start .args .t2) (names .result) (user .result) (session .result) (capability .result) (role .result) (parent .result) (column .result) (start .args .q) _ (c .decide .result) (start .pre .0) (column .ensures) (start .pre .1) (names .ensures)
+    (record { user = user .ensures .0; session = session .ensures .0; capability = capability .ensures .0; role = role .ensures .0; parent = parent .ensures .0 })
+    (c .before .before .seen .ensures) (c .decide .ensures)
 
 settles : (c : tie.After-put-back) →
-    let start = c .before .before .before .before .before .before .before .before .before .before .before .before .before .before .before .before .before .before .before .before in
-    _≡_ {A = Effect} record { answer = outcomeOf (c .before .before .before .before .before .decide .result .answer); after = c .put-back .result } (settled (start .args .t2) (callOf (start .args .q)))
+    let a = c .before .before .before .before .before .before .before .before .before .before .before .before .before .before .before .before .before .before .before .before .before .before .args in
+    _≡_ {A = Effect} record { answer = outcomeOf (c .before .before .before .before .before .decide .result .answer); after = c .put-back .result } (settled (a .t2) (callOf (a .q)))
 settles c =
     ap (λ (z : Register). record { answer = outcomeOf (c .before .before .before .before .before .decide .result .answer); after = z }) (c .put-back .ensures) ∙ ruled (c .before .before .before .before .before)
 
 put-back-requires : tie.Need-put-back-requires
-put-back-requires c κs = (omega arith, omega arith, omega arith, omega arith, omega arith)
+put-back-requires c κs =
+    let d = c .before .before .before .before in
+    (d .before .before .before .before .user-at .ensures .1, d .before .before .before .before .before .before .before .before .role-at .ensures .1, d .before .before .before .before .before .before .before .parent-at .ensures .1, d .before .before .before .before .before .before .before .before .before .before .capability-at .ensures .1, d .before .before .before .before .before .before .before .before .before .before .before .before .session-at .ensures .1)
 
 deliver-requires : tie.Need-deliver-requires
 deliver-requires c κs =
-    let start = c .before .before .before .before .before .before .before .before .before .before .before .before .before .before .before .before .before .before .before .before .before in
+    let start = c .before .before .before .before .before .before .before .before .before .before .before .before .before .before .before .before .before .before .before .before .before .before .before in
     after-formed (length (start .args .area .now)) (start .args .t2) (callOf (start .args .q)) (c .before .before .before .before .before .before .decide .result .answer) _ (start .pre .0) (settles (c .before))
 
 returns : tie.Need-returns
 returns c =
-    let start = c .before .before .before .before .before .before .before .before .before .before .before .before .before .before .before .before .before .before .before .before .before .before .before .before in
-    let room = length (start .args .area .now) in
+    let start = c .before .before .before .before .before .before .before .before .before .before .before .before .before .before .before .before .before .before .before .before .before .before .before .before .before .before in
     let deliver = c .before .before .deliver in
     let z = deliver .result in
-    let e = by-value room (start .args .t2) (callOf (start .args .q)) _ _ (start .pre .0) (settles (c .before .before .before .before)) _ (c .before .before .before .before .before .before .before .answer .given .1) in
+    let e = by-value (length (start .args .area .now)) (start .args .t2) (callOf (start .args .q)) _ _ (start .pre .0) (settles (c .before .before .before .before)) _ (c .before .before .before .before .before .before .before .answer .given .1) in
     let same = leaves-by (start .args .area .now) _ _ e in
     (toZ-ofZ w64 z (sfits-of {w = w64} {z = z} (deliver .ok)) ∙ deliver .ensures .0 ∙ same .0, deliver .ensures .1 ∙ same .1)
 
 returns-2 : tie.Need-returns-2
 returns-2 c =
-    let start = c .before .before .before .before .before .before .before .before .before .before .before .before .before .before .before .before .before .before .before in
-    let room = length (start .args .area .now) in
+    let start = c .before .before .before .before .before .before .before .before .before .before .before .before .before .before .before .before .before .before .before .before .before in
     let z = c .refused .result in
-    let e = by-refusal room (start .args .t2) (callOf (start .args .q)) _ _ (start .pre .0) (ruled (c .before .before .before .before)) _ (c .before .before .answer2 .given .1) in
+    let e = by-refusal (length (start .args .area .now)) (start .args .t2) (callOf (start .args .q)) _ _ (start .pre .0) (ruled (c .before .before .before .before)) _ (c .before .before .answer2 .given .1) in
     let same = leaves-by (start .args .area .now) _ _ e in
     (toZ-ofZ w64 z (sfits-of {w = w64} {z = z} (c .refused .ok)) ∙ c .refused .ensures ∙ same .0, same .1)
 
@@ -66,10 +69,10 @@ pub answer-one-spec : {M : Type 1} → statement M
 answer-one-spec =
     tie.close
     (tie.spec
-    (λ c κs. search needs) (λ c κs. search needs) (λ c. search needs) (λ c. search needs) (λ c. search needs) (λ c. search needs)
-    (λ c κs. search needs) (λ c. search needs) (λ c. search needs) (λ c. search needs) (λ c κs. search needs) (λ c. search needs)
-    (λ c κs. search needs) (λ c. search needs) (λ c. search needs) (λ c. search needs) (λ c. search needs) (λ c. search needs)
-    (λ c. search needs) (λ c κs. search needs) (λ c. search needs)
+    (λ c κs. search needs) (λ c κs. search needs) (λ c κs. search needs) (λ c. search needs) (λ c. search needs) (λ c κs. search needs)
+    (λ c. search needs) (λ c. search needs) (λ c κs. search needs) (λ c κs. search needs) (λ c. search needs) (λ c. search needs)
+    (λ c. search needs) (λ c. search needs) (λ c κs. search needs) (λ c. search needs) (λ c κs. search needs) (λ c κs. search needs)
+    (λ c. search needs)
     put-back-requires
     deliver-requires
     (λ c. search needs) (λ c κs. search needs) (λ c. search needs)

@@ -47,7 +47,7 @@ answer-one-requires c κs =
     (formed (c .before .before .before .before), fits (c .before .before .before .before .before .before .before .parsed .given .0 .0) _ _ (c .before .before .before .before .task-of .ensures) (c .before .before .task .given .1))
 
 answer-any-requires : tie.Need-answer-any-requires
-answer-any-requires c κs = formed (c .before .before)
+answer-any-requires c κs = formed (c .before .before .before)
 
 returns-3 : tie.Need-returns-3
 returns-3 c =
@@ -59,9 +59,9 @@ returns-3 c =
 
 returns-4 : tie.Need-returns-4
 returns-4 c =
-    let a = c .before .before .before .before .before .before .before .before .before .before .before .before .before .before .before .before .args in
+    let a = c .before .before .before .before .before .before .before .before .before .before .before .before .before .before .before .before .before .args in
     let z = c .before .before .answer-any .result in
-    let same = leaves-by (a .area .now) _ _ (comes (c .before .before .before .before .before)) in
+    let same = leaves-by (a .area .now) _ _ (comes (c .before .before .before .before .before .before)) in
     (toZ-ofZ w64 z (sfits-of {w = w64} {z = z} (c .before .before .answer-any .ok)) ∙ c .before .before .answer-any .ensures .0 ∙ same .0, c .before .before .answer-any .ensures .1 ∙ same .1)
 
 pub fellunqa-apply-spec : {M : Type 1} → statement M
@@ -74,6 +74,7 @@ fellunqa-apply-spec =
     returns-2
     (λ c κs. search needs) (λ c. search needs)
     answer-one-requires
+    (λ c. search needs)
     answer-any-requires
     (λ c. search needs)
     returns-3

@@ -2,8 +2,7 @@
 use mathlib.Core.Path.{_≡_, refl, sym, ap, _∙_, subst}
 use mathlib.Core.Bool.{true}
 use mathlib.Core.List.{List}
-use Prim.Native.Nat.{ℕ, _+_, _-_, _%_, _≤_, _<_}
-use native.Mathlib.Nat.{mod-lt}
+use Prim.Native.Nat.{ℕ, _+_, _-_, _≤_, _<_}
 use native.Mathlib.Omega.{arith}
 use borrow.Author.Needs.{needs}
 use borrow.Rule.Slice.PartMut.{putMid}
@@ -183,7 +182,7 @@ checks c =
     let l = s .before .before .before .before .before .before .loop in
     let fit = subst (Fits _ _) (c .before .before .before .before .before .before .before .before .step2 .given .1) (s .step-of .ensures) in
     let k = keeps s (fit .0) in
-    line-done (l .r) _ _ _ (fit .1) k (check-done (l .r) (l .permissions) _ _ _ _ _ k (l .inv .2) (c .before .before .before .before .role-held .ensures) (c .before .before .before .before .before .capability-held .ensures) (c .answer-check .ensures))
+    line-done (l .r) _ _ _ (fit .1) k (check-done (l .r) (l .permissions) _ _ _ _ _ k (l .inv .2) (c .before .before .before .before .before .role-held .ensures) (c .before .before .before .capability-held .ensures) (c .answer-check .ensures))
 
 sub-print-3 : tie.Need-sub-print-3 Inv-loop μ-loop
 sub-print-3 c = within (c .before .before .before .before .before .before .before .before .before .before .before .before .before)
@@ -271,41 +270,68 @@ loop-again-4 c =
 -- ---- a call that changes only elements that it names
 
 ones : (c : tie.After-decide Inv-loop μ-loop) →
-    let s = c .before .before .before .before .before .before .before .before .before .before .before .before .before .before .before .before in
-    lifted (s .before .before .before .before .before .before .loop .r) (placed (s .before .before .before .before .before .before .loop .r) (c .before .before .before .before .before .before .before .before .before .before .before .before .names-of .result) (c .before .before .before .before .before .before .before .before .capability-place .result) (c .before .before .before .before .before .before .role-place .result) (c .before .before .before .before .before .parent-place .result)) (ruledOf (c .decide .result))
+    let s = c .before .before .before .before .before .before .before .before .before .before .before .before .before .before .before .before .before in
+    lifted (s .before .before .before .before .before .before .loop .r) (placed (s .before .before .before .before .before .before .loop .r) (c .before .before .before .before .before .before .before .before .before .before .before .before .before .names-of .result) (c .before .before .before .before .user-at .result) (c .before .before .before .before .before .before .before .before .before .before .before .before .session-at .result) (c .before .before .before .before .before .before .before .before .before .before .capability-at .result) (c .before .before .before .before .before .before .before .before .role-at .result) (c .before .before .before .before .before .before .parent-at .result)) (ruledOf (c .decide .result))
     ≡ lineEffect (s .before .before .before .before .before .before .loop .r) (Line s)
 ones c =
-    let s = c .before .before .before .before .before .before .before .before .before .before .before .before .before .before .before .before in
+    let s = c .before .before .before .before .before .before .before .before .before .before .before .before .before .before .before .before .before in
     let l = s .before .before .before .before .before .before .loop in
-    let fit = subst (Fits _ _) (c .before .before .before .before .before .before .before .before .before .before .before .before .before .before .step4 .given .1) (s .step-of .ensures) in
+    let user = c .before .before .before .before .user-at in
+    let parent = c .before .before .before .before .before .before .parent-at in
+    let role = c .before .before .before .before .before .before .before .before .role-at in
+    let capability = c .before .before .before .before .before .before .before .before .before .before .capability-at in
+    let session = c .before .before .before .before .before .before .before .before .before .before .before .before .session-at in
+    let names = c .before .before .before .before .before .before .before .before .before .before .before .before .before .names-of in
+    let request = c .before .before .before .before .before .before .before .before .before .before .before .before .before .before .before .step4 .given in
+    let fit = subst (Fits _ _) (request .1) (s .step-of .ensures) in
     let k = keeps s (fit .1) in
     line-done (l .r) _ _ _ (fit .2) k
-    (commit (l .r) (c .before .before .before .before .before .before .before .before .before .before .before .before .names-of .result) (c .before .before .before .before .before .before .before .before .capability-place .result) (c .before .before .before .before .before .before .role-place .result) (c .before .before .before .before .before .parent-place .result) (l .permissions) (c .before .before .before .before .before .before .before .before .before .before .before .before .before .before .step4 .given .0 .0) (c .decide .result) k (l .inv .2) (fit .0) (c .before .before .before .before .before .before .before .before .before .before .before .before .names-of .ensures) (c .before .before .before .before .before .before .before .before .capability-place .ensures) (c .before .before .before .before .before .before .role-place .ensures) (c .before .before .before .before .before .parent-place .ensures) (c .decide .ensures))
+    (commit (l .r) (names .result) (user .result) (session .result) (capability .result) (role .result) (parent .result) (l .permissions) (request .0 .0) _ (c .decide .result) k (l .inv .2) (fit .0) (names .ensures)
+    (record { user = user .ensures .0; session = session .ensures .0; capability = capability .ensures .0; role = role .ensures .0; parent = parent .ensures .0 })
+    (c .before .before .seen .ensures) (c .decide .ensures))
 
 sub-print-6 : tie.Need-sub-print-6 Inv-loop μ-loop
-sub-print-6 c = within (c .before .before .before .before .before .before .before .before .before .before .before .before .before .before .before .before .before .before .before)
+sub-print-6 c = within (c .before .before .before .before .before .before .before .before .before .before .before .before .before .before .before .before .before .before .before .before)
 
 part-print-start-6 : tie.Need-part-print-start-6 Inv-loop μ-loop
-part-print-start-6 c = within (c .before .before .before .before .before .before .before .before .before .before .before .before .before .before .before .before .before .before .before)
+part-print-start-6 c = within (c .before .before .before .before .before .before .before .before .before .before .before .before .before .before .before .before .before .before .before .before)
 
 add-to-5 : tie.Need-add-to-5 Inv-loop μ-loop
 unfolding put
-add-to-5 c = omega (arith, played (c .before .before .before .before .before .before .before .before .before .before .before .before .before .before .before .before .before .before .before .before) _ _ _ _ (ones (c .before .before .before .before)) (c .before .before .print6 .ensures) .0)
+add-to-5 c = omega (arith, played (c .before .before .before .before .before .before .before .before .before .before .before .before .before .before .before .before .before .before .before .before .before) _ _ _ _ (ones (c .before .before .before .before)) (c .before .before .print6 .ensures) .0)
+
+-- the places are within the register
+mul-x-4 : tie.Need-mul-x-4 Inv-loop μ-loop
+mul-x-4 c = omega (arith, c .before .before .before .before .before .before .before .before .before .before .before .before .before .parent-at .ensures .1)
+
+element-set-from-x-2 : tie.Need-element-set-from-x-2 Inv-loop μ-loop
+element-set-from-x-2 c = omega (arith, c .before .before .before .before .before .before .before .before .before .before .before .before .before .parent-at .ensures .1)
+
+mul-x-5 : tie.Need-mul-x-5 Inv-loop μ-loop
+mul-x-5 c = omega (arith, c .before .before .before .before .before .before .before .before .before .before .before .before .before .before .before .before .before .before .capability-at .ensures .1)
+
+element-set-from-x-3 : tie.Need-element-set-from-x-3 Inv-loop μ-loop
+element-set-from-x-3 c = omega (arith, c .before .before .before .before .before .before .before .before .before .before .before .before .before .before .before .before .before .before .capability-at .ensures .1)
+
+mul-x-6 : tie.Need-mul-x-6 Inv-loop μ-loop
+mul-x-6 c = omega (arith, c .before .before .before .before .before .before .before .before .before .before .before .before .before .before .before .before .before .before .before .before .before .session-at .ensures .1)
+
+element-set-from-x-4 : tie.Need-element-set-from-x-4 Inv-loop μ-loop
+element-set-from-x-4 c = omega (arith, c .before .before .before .before .before .before .before .before .before .before .before .before .before .before .before .before .before .before .before .before .before .session-at .ensures .1)
 
 loop-less-5 : tie.Need-loop-less-5 Inv-loop μ-loop
-loop-less-5 c = omega (arith, short (c .before .before .before .before .before .before .before .before .before .before .before .before .before .before .before .before .before .before .before .before .before .before .before .before .before))
+loop-less-5 c = omega (arith, short (c .before .before .before .before .before .before .before .before .before .before .before .before .before .before .before .before .before .before .before .before .before .before .before .before .before .before))
 
 loop-again-5 : tie.Need-loop-again-5 Inv-loop μ-loop
 unfolding put
 loop-again-5 c =
     let d = c .before .before .before .before .before .before .before .before .before in
-    let s = d .before .before .before .before .before .before .before .before .before .before .before .before .before .before .before .before in
+    let s = d .before .before .before .before .before .before .before .before .before .before .before .before .before .before .before .before .before in
     let l = s .before .before .before .before .before .before .loop in
     let w = played s _ _ _ _ (ones d) (c .before .before .before .before .before .before .before .print6 .ensures) .1 (c .before .before .before .before .before .before .out6 .given .1) in
-    let fit = subst (Fits _ _) (d .before .before .before .before .before .before .before .before .before .before .before .before .before .before .step4 .given .1) (s .step-of .ensures) in
+    let fit = subst (Fits _ _) (d .before .before .before .before .before .before .before .before .before .before .before .before .before .before .before .step4 .given .1) (s .step-of .ensures) in
     let roles : length (l .r .roles) ≡ 32 = kept→ (l .r) (keeps s (fit .1)) .roles .amount in
-    let place : d .before .before .before .before .before .before .role-place .result % 32 < 32 = mod-lt _ (omega arith) in
-    (w .0, w .1, column-put (l .permissions) (l .r .roles) _ _ (l .inv .2) (l .inv .3) roles place, length-set (l .permissions) _ _ ∙ l .inv .3)
+    (w .0, w .1, column-put (l .permissions) (l .r .roles) _ _ (l .inv .2) (l .inv .3) roles (d .before .before .before .before .before .before .before .before .role-at .ensures .1), length-set (l .permissions) _ _ ∙ l .inv .3)
 
 -- ---- the end
 
@@ -350,7 +376,7 @@ play-spec =
     loop-less
     loop-again
     (λ c. search needs) (λ c. search needs) (λ c. search needs) (λ c. search needs) (λ c κs. search needs) (λ c. search needs)
-    (λ c κs. search needs) (λ c. search needs) (λ c. search needs) (λ c. search needs) (λ c. search needs) (λ c. search needs)
+    (λ c. search needs) (λ c. search needs) (λ c κs. search needs) (λ c. search needs) (λ c. search needs) (λ c. search needs)
     (λ c κs. search needs)
     sub-print-3
     part-print-start-3
@@ -376,16 +402,20 @@ play-spec =
     (λ c κs. search needs)
     loop-less-4
     loop-again-4
-    (λ c. search needs) (λ c κs. search needs) (λ c. search needs) (λ c. search needs) (λ c. search needs) (λ c. search needs)
-    (λ c κs. search needs) (λ c. search needs) (λ c. search needs) (λ c. search needs) (λ c κs. search needs) (λ c. search needs)
-    (λ c κs. search needs) (λ c. search needs) (λ c. search needs) (λ c. search needs) (λ c. search needs) (λ c. search needs)
-    (λ c. search needs) (λ c κs. search needs)
+    (λ c. search needs) (λ c κs. search needs) (λ c κs. search needs) (λ c. search needs) (λ c. search needs) (λ c κs. search needs)
+    (λ c. search needs) (λ c. search needs) (λ c κs. search needs) (λ c. search needs) (λ c. search needs) (λ c κs. search needs)
+    (λ c. search needs) (λ c. search needs) (λ c κs. search needs) (λ c. search needs) (λ c κs. search needs) (λ c κs. search needs)
     sub-print-6
     part-print-start-6
     (λ c. search needs) (λ c κs. search needs)
     add-to-5
-    (λ c. search needs) (λ c. search needs) (λ c. search needs) (λ c. search needs) (λ c. search needs) (λ c. search needs)
     (λ c. search needs) (λ c. search needs) (λ c. search needs) (λ c. search needs) (λ c. search needs)
+    mul-x-4
+    element-set-from-x-2
+    mul-x-5
+    element-set-from-x-3
+    mul-x-6
+    element-set-from-x-4
     loop-less-5
     loop-again-5
     same-length-2

@@ -1,0 +1,2 @@
+-- What is printed for lines on a saved register.
+pub mod Measured
