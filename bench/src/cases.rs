@@ -72,6 +72,60 @@ fn changes(name: &str, size: Size) -> [Case; 3] {
     ]
 }
 
+/// Lines on a register, and the lines that they are measured against.
+pub struct List {
+    /// One of the calls, for SQLite.
+    pub case: Case,
+    pub image: Vec<u8>,
+    pub with: Vec<u8>,
+    pub without: Vec<u8>,
+    /// How many calls the lines have more.
+    pub calls: f64,
+}
+
+impl List {
+    fn new(case: Case, image: Vec<u8>, with: &[String], without: &[String], calls: usize) -> List {
+        let text = |lines: &[String]| lines.concat().into_bytes();
+        List { case, image, with: text(with), without: text(without), calls: calls as f64 }
+    }
+
+    /// The case's line by itself.
+    fn single(case: Case) -> List {
+        let (image, line) = (case.image.clone(), case.line.clone());
+        List { case, image, with: line, without: Vec::new(), calls: 1.0 }
+    }
+}
+
+/// Checks, openings (each closed again, against closings alone), creations and
+/// the revocation of both trees.
+pub fn lists() -> Vec<List> {
+    [("half", HALF), ("full", FULL)]
+        .into_iter()
+        .flat_map(|(name, size)| lists_on(name, size))
+        .collect()
+}
+
+fn lists_on(name: &str, size: Size) -> [List; 5] {
+    const MANY: usize = 64;
+    let line = |case: &Case| String::from_utf8(case.line.clone()).expect("ASCII");
+    let check = check(name, size);
+    let checks = vec![line(&check); MANY];
+    let image = check.image.clone();
+    let checks = List::new(check, image, &checks, &[], MANY);
+    let open = open(name, size);
+    let close = format!("close {}\n", size.sessions - 1);
+    let (pairs, closes) = (vec![line(&open) + &close; MANY], vec![close; MANY]);
+    let image = open.image.clone();
+    let opens = List::new(open, image, &pairs, &closes, MANY);
+    let [create, deep, wide] = changes(name, size);
+    let first = size.passes - MANY;
+    let before = encode(&grown(Size { passes: first, ..size }, Shape::Deep));
+    // all from the last pass there, which its creator holds
+    let added = (first..size.passes).map(|_| creation(first, Shape::Deep) + "\n");
+    let creates = List::new(create, before, &added.collect::<Vec<_>>(), &[], MANY);
+    [checks, opens, creates, List::single(deep), List::single(wide)]
+}
+
 /// For each register, the line that yields no request: only the load is done;
 /// and the line that changes nothing: load and save are done.
 pub fn images() -> Vec<[Case; 2]> {

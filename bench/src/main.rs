@@ -8,6 +8,7 @@ mod clock;
 mod contender;
 mod entry;
 mod journals;
+mod library;
 mod meter;
 mod processes;
 mod registers;
@@ -22,13 +23,18 @@ fn main() {
     let arguments: Vec<String> = std::env::args().skip(1).collect();
     let words: Vec<&str> = arguments.iter().map(String::as_str).collect();
     match words[..] {
-        ["count"] => drop(entry::print_all(&mut Meter::Counting)),
+        ["count"] => {
+            entry::print_all(&mut Meter::Counting);
+            library::print_all(&mut Meter::Counting);
+        }
         ["inputs", folder] => {
             cases::write_all(&PathBuf::from(folder)).expect("a folder");
             journals::write_all(&PathBuf::from(folder)).expect("a folder");
         }
         ["tables", folder] => {
-            let check = entry::print_all(&mut Meter::Timing(PathBuf::from(folder), 0));
+            let mut meter = Meter::Timing(PathBuf::from(folder), 0);
+            let check = entry::print_all(&mut meter);
+            library::print_all(&mut meter);
             processes::print_all(&PathBuf::from(folder), check);
         }
         _ => panic!("usage: bench count | inputs FOLDER | tables FOLDER"),

@@ -91,6 +91,7 @@ fn answer_one(area: &mut [u8], r: Register, q: Request) -> i64
     let m = names_of(q);
     let roles = r.roles;
     let permissions = permissions_of(roles);
+    let un = user_at(m);
     let sn = session_at(m);
     let s = r.sessions[sn];
     let cn = capability_at(m, s, r.count);
@@ -99,7 +100,6 @@ fn answer_one(area: &mut [u8], r: Register, q: Request) -> i64
     let pn = parent_at(m, c);
     let x = r.roles[rn];
     let p = r.capabilities[pn];
-    let un = user_at(m);
     let v = seen(r.clock, r.enrolled, r.count, r.domains[un], x, p, c, s);
     let d = decide(v, &permissions, q);
     let answer = d.answer;

@@ -17,14 +17,14 @@ use Rattle.fellunqa.proofs.answer_one.Tie as tie
 -- what was decided, put back
 ruled : (c : tie.After-decide) →
     let a = c .before .before .before .before .before .before .before .before .before .before .before .before .before .before .before .before .before .args in
-    lifted (a .t2) (placed (a .t2) (c .before .before .before .before .before .before .before .before .before .before .before .before .before .before .before .names-of .result) (c .before .before .before .before .user-at .result) (c .before .before .before .before .before .before .before .before .before .before .before .before .session-at .result) (c .before .before .before .before .before .before .before .before .before .before .capability-at .result) (c .before .before .before .before .before .before .before .before .role-at .result) (c .before .before .before .before .before .before .before .parent-at .result)) (ruledOf (c .decide .result))
+    lifted (a .t2) (placed (a .t2) (c .before .before .before .before .before .before .before .before .before .before .before .before .before .before .before .names-of .result) (c .before .before .before .before .before .before .before .before .before .before .before .before .user-at .result) (c .before .before .before .before .before .before .before .before .before .before .before .session-at .result) (c .before .before .before .before .before .before .before .before .before .capability-at .result) (c .before .before .before .before .before .before .before .role-at .result) (c .before .before .before .before .before .before .parent-at .result)) (ruledOf (c .decide .result))
     ≡ settled (a .t2) (callOf (a .q))
 ruled c =
-    let user = c .before .before .before .before .user-at in
-    let parent = c .before .before .before .before .before .before .before .parent-at in
-    let role = c .before .before .before .before .before .before .before .before .role-at in
-    let capability = c .before .before .before .before .before .before .before .before .before .before .capability-at in
-    let session = c .before .before .before .before .before .before .before .before .before .before .before .before .session-at in
+    let user = c .before .before .before .before .before .before .before .before .before .before .before .before .user-at in
+    let parent = c .before .before .before .before .before .before .parent-at in
+    let role = c .before .before .before .before .before .before .before .role-at in
+    let capability = c .before .before .before .before .before .before .before .before .before .capability-at in
+    let session = c .before .before .before .before .before .before .before .before .before .before .before .session-at in
     let column = c .before .before .before .before .before .before .before .before .before .before .before .before .before .permissions-of in
     let names = c .before .before .before .before .before .before .before .before .before .before .before .before .before .before .before .names-of in
     let start = c .before .before .before .before .before .before .before .before .before .before .before .before .before .before .before .before .before in
@@ -41,7 +41,7 @@ settles c =
 put-back-requires : tie.Need-put-back-requires
 put-back-requires c κs =
     let d = c .before .before .before .before in
-    (d .before .before .before .before .user-at .ensures .1, d .before .before .before .before .before .before .before .before .role-at .ensures .1, d .before .before .before .before .before .before .before .parent-at .ensures .1, d .before .before .before .before .before .before .before .before .before .before .capability-at .ensures .1, d .before .before .before .before .before .before .before .before .before .before .before .before .session-at .ensures .1)
+    (d .before .before .before .before .before .before .before .before .before .before .before .before .user-at .ensures .1, d .before .before .before .before .before .before .before .role-at .ensures .1, d .before .before .before .before .before .before .parent-at .ensures .1, d .before .before .before .before .before .before .before .before .before .capability-at .ensures .1, d .before .before .before .before .before .before .before .before .before .before .before .session-at .ensures .1)
 
 deliver-requires : tie.Need-deliver-requires
 deliver-requires c κs =
@@ -69,9 +69,9 @@ pub answer-one-spec : {M : Type 1} → statement M
 answer-one-spec =
     tie.close
     (tie.spec
-    (λ c κs. search needs) (λ c κs. search needs) (λ c κs. search needs) (λ c. search needs) (λ c. search needs) (λ c κs. search needs)
-    (λ c. search needs) (λ c. search needs) (λ c κs. search needs) (λ c κs. search needs) (λ c. search needs) (λ c. search needs)
-    (λ c. search needs) (λ c. search needs) (λ c κs. search needs) (λ c. search needs) (λ c κs. search needs) (λ c κs. search needs)
+    (λ c κs. search needs) (λ c κs. search needs) (λ c κs. search needs) (λ c κs. search needs) (λ c. search needs) (λ c. search needs)
+    (λ c κs. search needs) (λ c. search needs) (λ c. search needs) (λ c κs. search needs) (λ c κs. search needs) (λ c. search needs)
+    (λ c. search needs) (λ c. search needs) (λ c. search needs) (λ c. search needs) (λ c κs. search needs) (λ c κs. search needs)
     (λ c. search needs)
     put-back-requires
     deliver-requires

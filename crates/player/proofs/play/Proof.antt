@@ -70,12 +70,6 @@ add-end c = omega (arith, whole c)
 
 -- ---- a last line without its line feed
 
-sub-print : tie.Need-sub-print Inv-loop μ-loop
-sub-print c = within (c .before)
-
-part-print-start : tie.Need-part-print-start Inv-loop μ-loop
-part-print-start c = within (c .before)
-
 unended : (c : tie.After-print Inv-loop μ-loop) →
     let l = c .before .before .before .before .before .before .loop in
     transcript (l .r) (split 10 (drop (l .at) (c .before .before .before .before .before .before .before .before .before .before .before .before .args .input .now))) ≡ printed (refused 1)
@@ -153,12 +147,6 @@ refuses : (s : tie.After-step-of Inv-loop μ-loop) (why : Refusal) → s .step-o
     → record { answer = refused (refusalNumber why); after = s .before .before .before .before .before .before .loop .r } ≡ lineEffect (s .before .before .before .before .before .before .loop .r) (Line s)
 refuses s why e = subst (Fits _ _) e (s .step-of .ensures) (s .before .before .before .before .before .before .loop .r) (sym (s .before .before .before .before .before .before .loop .inv .1))
 
-sub-print-2 : tie.Need-sub-print-2 Inv-loop μ-loop
-sub-print-2 c = within (c .before .before .before .before .before .before)
-
-part-print-start-2 : tie.Need-part-print-start-2 Inv-loop μ-loop
-part-print-start-2 c = within (c .before .before .before .before .before .before)
-
 add-to : tie.Need-add-to Inv-loop μ-loop
 add-to c = omega (arith, played (c .before .before .before .before .before .before .before) _ _ _ _ (refuses (c .before .before .before .before .before .before .before) _ (c .before .before .before .before .before .step .given .1)) (c .before .before .print2 .ensures) .0)
 
@@ -183,12 +171,6 @@ checks c =
     let fit = subst (Fits _ _) (c .before .before .before .before .before .before .before .before .step2 .given .1) (s .step-of .ensures) in
     let k = keeps s (fit .0) in
     line-done (l .r) _ _ _ (fit .1) k (check-done (l .r) (l .permissions) _ _ _ _ _ k (l .inv .2) (c .before .before .before .before .before .role-held .ensures) (c .before .before .before .capability-held .ensures) (c .answer-check .ensures))
-
-sub-print-3 : tie.Need-sub-print-3 Inv-loop μ-loop
-sub-print-3 c = within (c .before .before .before .before .before .before .before .before .before .before .before .before .before)
-
-part-print-start-3 : tie.Need-part-print-start-3 Inv-loop μ-loop
-part-print-start-3 c = within (c .before .before .before .before .before .before .before .before .before .before .before .before .before)
 
 add-to-2 : tie.Need-add-to-2 Inv-loop μ-loop
 add-to-2 c = omega (arith, played (c .before .before .before .before .before .before .before .before .before .before .before .before .before .before) _ _ _ _ (checks (c .before .before .before .before)) (c .before .before .print3 .ensures) .0)
@@ -215,12 +197,6 @@ orders c =
     let s = c .before .before .before .before in
     let fit = subst (Fits _ _) (c .before .before .step3 .given .1) (s .step-of .ensures) in
     line-done (s .before .before .before .before .before .before .loop .r) _ _ _ (fit .1) (keeps s (fit .0)) (c .order-of .ensures)
-
-sub-print-4 : tie.Need-sub-print-4 Inv-loop μ-loop
-sub-print-4 c = within (c .before .before .before .before .before .before .before .before .before .before)
-
-part-print-start-4 : tie.Need-part-print-start-4 Inv-loop μ-loop
-part-print-start-4 c = within (c .before .before .before .before .before .before .before .before .before .before)
 
 add-to-3 : tie.Need-add-to-3 Inv-loop μ-loop
 add-to-3 c =
@@ -249,12 +225,6 @@ sweeps : (c : tie.After-sweep-all Inv-loop μ-loop) →
 sweeps c =
     let s = c .before .before .before .before .before .before .before .before in
     c .sweep-all .ensures ∙ ap (orderEffect (s .before .before .before .before .before .before .loop .r)) (sym (c .before .before .order2 .given .1)) ∙ orders (c .before .before .before .before)
-
-sub-print-5 : tie.Need-sub-print-5 Inv-loop μ-loop
-sub-print-5 c = within (c .before .before .before .before .before .before .before .before .before .before .before)
-
-part-print-start-5 : tie.Need-part-print-start-5 Inv-loop μ-loop
-part-print-start-5 c = within (c .before .before .before .before .before .before .before .before .before .before .before)
 
 add-to-4 : tie.Need-add-to-4 Inv-loop μ-loop
 add-to-4 c = omega (arith, played (c .before .before .before .before .before .before .before .before .before .before .before .before) _ _ _ _ (sweeps (c .before .before .before .before)) (c .before .before .print5 .ensures) .0)
@@ -289,12 +259,6 @@ ones c =
     (commit (l .r) (names .result) (user .result) (session .result) (capability .result) (role .result) (parent .result) (l .permissions) (request .0 .0) _ (c .decide .result) k (l .inv .2) (fit .0) (names .ensures)
     (record { user = user .ensures .0; session = session .ensures .0; capability = capability .ensures .0; role = role .ensures .0; parent = parent .ensures .0 })
     (c .before .before .seen .ensures) (c .decide .ensures))
-
-sub-print-6 : tie.Need-sub-print-6 Inv-loop μ-loop
-sub-print-6 c = within (c .before .before .before .before .before .before .before .before .before .before .before .before .before .before .before .before .before .before .before .before)
-
-part-print-start-6 : tie.Need-part-print-start-6 Inv-loop μ-loop
-part-print-start-6 c = within (c .before .before .before .before .before .before .before .before .before .before .before .before .before .before .before .before .before .before .before .before)
 
 add-to-5 : tie.Need-add-to-5 Inv-loop μ-loop
 unfolding put
@@ -358,8 +322,8 @@ play-spec =
     loop-holds
     (λ c. search needs) (λ c. search needs) (λ c. search needs) (λ c κs. search needs)
     add-end
-    sub-print
-    part-print-start
+    (λ c. within (c .before))
+    (λ c. within (c .before))
     (λ c. search needs) (λ c κs. search needs)
     add-result
     same-length
@@ -369,8 +333,8 @@ play-spec =
     (λ c κs. search needs)
     add-at
     (λ c. search needs)
-    sub-print-2
-    part-print-start-2
+    (λ c. within (c .before .before .before .before .before .before))
+    (λ c. within (c .before .before .before .before .before .before))
     (λ c. search needs) (λ c κs. search needs)
     add-to
     loop-less
@@ -378,8 +342,8 @@ play-spec =
     (λ c. search needs) (λ c. search needs) (λ c. search needs) (λ c. search needs) (λ c κs. search needs) (λ c. search needs)
     (λ c. search needs) (λ c. search needs) (λ c κs. search needs) (λ c. search needs) (λ c. search needs) (λ c. search needs)
     (λ c κs. search needs)
-    sub-print-3
-    part-print-start-3
+    (λ c. within (c .before .before .before .before .before .before .before .before .before .before .before .before .before))
+    (λ c. within (c .before .before .before .before .before .before .before .before .before .before .before .before .before))
     (λ c. search needs) (λ c κs. search needs)
     add-to-2
     loop-less-2
@@ -387,16 +351,16 @@ play-spec =
     (λ c. search needs)
     order-of-requires
     (λ c. search needs)
-    sub-print-4
-    part-print-start-4
+    (λ c. within (c .before .before .before .before .before .before .before .before .before .before))
+    (λ c. within (c .before .before .before .before .before .before .before .before .before .before))
     (λ c. search needs) (λ c κs. search needs)
     add-to-3
     loop-less-3
     loop-again-3
     (λ c. search needs)
     sweep-all-requires
-    sub-print-5
-    part-print-start-5
+    (λ c. within (c .before .before .before .before .before .before .before .before .before .before .before))
+    (λ c. within (c .before .before .before .before .before .before .before .before .before .before .before))
     (λ c. search needs) (λ c κs. search needs)
     add-to-4
     (λ c κs. search needs)
@@ -405,8 +369,8 @@ play-spec =
     (λ c. search needs) (λ c κs. search needs) (λ c κs. search needs) (λ c. search needs) (λ c. search needs) (λ c κs. search needs)
     (λ c. search needs) (λ c. search needs) (λ c κs. search needs) (λ c. search needs) (λ c. search needs) (λ c κs. search needs)
     (λ c. search needs) (λ c. search needs) (λ c κs. search needs) (λ c. search needs) (λ c κs. search needs) (λ c κs. search needs)
-    sub-print-6
-    part-print-start-6
+    (λ c. within (c .before .before .before .before .before .before .before .before .before .before .before .before .before .before .before .before .before .before .before .before))
+    (λ c. within (c .before .before .before .before .before .before .before .before .before .before .before .before .before .before .before .before .before .before .before .before))
     (λ c. search needs) (λ c κs. search needs)
     add-to-5
     (λ c. search needs) (λ c. search needs) (λ c. search needs) (λ c. search needs) (λ c. search needs)

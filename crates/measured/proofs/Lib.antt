@@ -1,0 +1,2 @@
+-- What is printed, by what load found.
+pub mod Laws

@@ -1,0 +1,25 @@
+-- `measured::measured_play` meets its contract.
+use borrow.Author.Needs.{needs}
+use borrow.Author.Tests.{not-true, not-false}
+use mathlib.Core.Path.{_∙_}
+use Rattle.measured.proofs.Laws.{not-played, is-played}
+use Rattle.measured.proofs.measured_play.Statement.{statement}
+use Rattle.measured.proofs.measured_play.Tie as tie
+
+returns : tie.Need-returns
+returns c =
+    let a = c .before .before .before .before .before .args in
+    let load = c .before .load in
+    not-played (a .image .now) (a .lines .now) (a .out .now) (load .result) (load .ensures) (not-true (load .result .ok) (c .if1 .taken))
+
+returns-2 : tie.Need-returns-2
+returns-2 c =
+    let a = c .before .before .before .before .before .before .before .before .before .before .args in
+    let t = c .before .before .before .before .before in
+    let load = t .before .load in
+    let journal = c .before .before .journal in
+    let same = is-played (a .image .now) (a .lines .now) (a .out .now) (load .result) (load .ensures) (not-false (load .result .ok) (t .if1 .left)) in
+    (journal .ensures .0 ∙ same .0, journal .ensures .1 ∙ same .1)
+
+pub measured-play-spec : {M : Type 1} → statement M
+measured-play-spec = tie.close (tie.spec (λ c κs. search needs) returns (λ c κs. search needs) (λ c. search needs) returns-2)
