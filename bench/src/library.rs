@@ -66,7 +66,7 @@ struct Playing {
 impl Contender for Playing {
     fn call(&mut self) -> i64 {
         (self.player)(&self.image, &self.lines, &mut self.out);
-        i64::from(black_box(&self.out)[0])
+        black_box(&self.out).len() as i64
     }
 }
 

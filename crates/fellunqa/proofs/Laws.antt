@@ -17,7 +17,7 @@ use lib.Seq.{drop-at, drop-cons, drop-drop, length-take-le}
 use Rattle.buffers.proofs.Parts.{placed}
 use Rattle.masks.specs.Bytes.{front, onto, split}
 use Rattle.masks.proofs.Truth.{T→true, T→false, true→T, le→nltb}
-use Rattle.image.specs.declared.Loaded.{Loaded}
+use Rattle.image.specs.declared.loader.ReadImage.{ReadImage}
 use Rattle.model.specs.declared.Register.{Register}
 use Rattle.model.specs.declared.Request.{Request}
 use Rattle.model.specs.declared.Refusal.{Refusal}
@@ -25,7 +25,6 @@ use Rattle.model.specs.declared.Answer.{Answer}
 use Rattle.model.specs.declared.Answer.the-variants.{Value, Refused}
 use Rattle.model.specs.declared.Parsed.{Parsed}
 use Rattle.model.specs.declared.Parsed.the-variants.{Line, NoRequest}
-use Rattle.model.specs.State.{fresh}
 use Rattle.model.specs.Rules.{wellFormed}
 use Rattle.model.specs.Rulings.{value, refused, Effect, settle}
 use Rattle.model.specs.Calls.{Call, settled, step}
@@ -145,27 +144,27 @@ module _ (room v : ℕ) (image : List ℕ) where
   pub fitted-none : room < length image + 2 → declined 16 ≡ fitted room v image
   fitted-none h = rw (lt-leb _ _ h)
 
--- ---- what the entry point comes to; l is what load found
+-- ---- what the entry point comes to; l is what was read
 
 -- one return is as good as another
 pub leaves-by : (buffer : List ℕ) (p q : Return) → p ≡ q → (returned p ≡ returned q) × (bufferAfter p buffer ≡ bufferAfter q buffer)
 leaves-by buffer p q e = (ap returned e, ap (λ (x : Return). bufferAfter x buffer) e)
 
-module _ (image line : List ℕ) (room : ℕ) (l : Loaded) (found : (l .ok ≡ loads image) × (l .register ≡ cond (loads image) (decode image) fresh)) where
+module _ (image line : List ℕ) (room : ℕ) (l : ReadImage) (found : (l .exact ≡ loads image) × (l .register ≡ decode image)) where
   abbrev r : Register
   r = l .register
 
-  by-load : (b : Bool) → l .ok ≡ b → entry image line room ≡ (elim b as (λ x. Return) [ true ↦ called room (decode image) (soleLine (split 10 line)) | false ↦ declined 14 ])
+  by-load : (b : Bool) → l .exact ≡ b → entry image line room ≡ (elim b as (λ x. Return) [ true ↦ called room (decode image) (soleLine (split 10 line)) | false ↦ declined 14 ])
   unfolding entry
   by-load b h =
       ap (λ (x : Bool). elim x as (λ y. Return) [ true ↦ called room (decode image) (soleLine (split 10 line)) | false ↦ declined 14 ]) (sym (found .0) ∙ h)
 
-  pub no-image : l .ok ≡ false → declined 14 ≡ entry image line room
+  pub no-image : l .exact ≡ false → declined 14 ≡ entry image line room
   no-image h = sym (by-load false h)
 
-  module _ (h : l .ok ≡ true) where
+  module _ (h : l .exact ≡ true) where
     read : r ≡ decode image
-    read = found .1 ∙ ap (λ (b : Bool). cond b (decode image) fresh) (sym (found .0) ∙ h)
+    read = found .1
 
     by-line : entry image line room ≡ called room r (soleLine (split 10 line))
     by-line = by-load true h ∙ ap (λ (q : Register). called room q (soleLine (split 10 line))) (sym read)

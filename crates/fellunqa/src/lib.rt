@@ -15,7 +15,7 @@ use calls::apply::apply_trusted;
 use calls::one::Indices;
 use calls::one::decide;
 use calls::one::put_back;
-use image::load;
+use image::read_checked;
 use image::save_trusted;
 use model::Answer;
 use model::Parsed;
@@ -142,20 +142,19 @@ fn answer_any(area: &mut [u8], r: Register, q: Request) -> i64
 pub extern "C" fn fellunqa_apply(image: &[u8], line: &[u8], area: &mut [u8]) -> i64
     ensures { λ q. ⌜ (q ≡ returned (entry (now (image .entry)) (now (line .entry)) (length (now (area .entry))))) × (now (area .exit) ≡ bufferAfter (entry (now (image .entry)) (now (line .entry)) (length (now (area .entry)))) (now (area .entry))) ⌝ }
 {
-    let loaded = load(image);
-    let ok = loaded.ok;
-    if !ok {
+    let read = read_checked(image);
+    let exact = read.exact;
+    if !exact {
         return -14;
     }
     let parsed = sole_line(line);
     let Parsed::Line(request) = parsed else {
         return -1;
     };
-    let register = loaded.register;
     let task = task_of(request);
     if let Task::One(q) = task {
-        answer_one(area, register, q)
+        answer_one(area, read.register, q)
     } else {
-        answer_any(area, register, request)
+        answer_any(area, read.register, request)
     }
 }

@@ -7,6 +7,7 @@ ghost use Rattle.model.specs.State.{fresh};
 ghost use Rattle.model.specs.Rules.{wellFormed};
 ghost use Rattle.model.specs.Requests.{outcomeOf};
 ghost use Rattle.model.specs.Image.{decode, loads, saveEffect, savedBuffer};
+use crate::loader::ReadImage;
 use crate::loader::read_image;
 use crate::writer::put_image;
 use buffers::put_bytes;
@@ -16,7 +17,7 @@ use model::Register;
 use rules::well_formed;
 use rules::well_formed_read;
 
-mod loader;
+pub mod loader;
 mod section;
 mod writer;
 
@@ -64,16 +65,28 @@ fn not_loaded() -> Loaded
     }
 }
 
+// The register in an image, and whether the bytes are one: `exact` is the whole test of load here. Where they are not, the register
+// is what was read of them, and not to be used.
+pub fn read_checked(s: &[u8]) -> ReadImage
+    ensures { λ q. ⌜ (q .exact ≡ loads (now (s .entry))) × (q .register ≡ decode (now (s .entry))) ⌝ }
+{
+    let mut read = read_image(s);
+    let register = read.register;
+    let formed = well_formed_read(register);
+    read.exact = formed & read.exact;
+    read
+}
+
 // "load an image. 14 only: not exactly the layout below, a number out of range, or a shelf rule broken." What is loaded is the
 // register whose image it is; else it is not ok, and the register is fresh.
 pub fn load(s: &[u8]) -> Loaded
     ensures { λ q. ⌜ (q .ok ≡ loads (now (s .entry))) × (q .register ≡ cond (loads (now (s .entry))) (decode (now (s .entry))) fresh) ⌝ }
 {
-    let read = read_image(s);
-    let register = read.register;
-    let formed = well_formed_read(register);
-    if !(formed & read.exact) {
+    let read = read_checked(s);
+    let exact = read.exact;
+    if !exact {
         return not_loaded();
     }
+    let register = read.register;
     Loaded { ok: true, register }
 }

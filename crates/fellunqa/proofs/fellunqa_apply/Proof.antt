@@ -18,48 +18,48 @@ use Rattle.fellunqa.proofs.fellunqa_apply.Tie as tie
 returns : tie.Need-returns
 returns c =
     let a = c .before .before .before .before .before .args in
-    let load = c .before .load in
-    leaves-by (a .area .now) _ _ (no-image (a .image .now) (a .line .now) (length (a .area .now)) (load .result) (load .ensures) (not-true (load .result .ok) (c .if1 .taken)))
+    let load = c .before .read-checked in
+    leaves-by (a .area .now) _ _ (no-image (a .image .now) (a .line .now) (length (a .area .now)) (load .result) (load .ensures) (not-true (load .result .exact) (c .if1 .taken)))
 
 returns-2 : tie.Need-returns-2
 returns-2 c =
     let a = c .before .before .before .before .before .before .before .before .args in
-    let load = c .before .before .before .before .load in
-    leaves-by (a .area .now) _ _ (no-line (a .image .now) (a .line .now) (length (a .area .now)) (load .result) (load .ensures) (not-false (load .result .ok) (c .before .before .before .if1 .left)) _ (c .before .before .sole-line .ensures) (c .enum-told .given .1))
+    let load = c .before .before .before .before .read-checked in
+    leaves-by (a .area .now) _ _ (no-line (a .image .now) (a .line .now) (length (a .area .now)) (load .result) (load .ensures) (not-false (load .result .exact) (c .before .before .before .if1 .left)) _ (c .before .before .sole-line .ensures) (c .enum-told .given .1))
 
 -- the request of the line, on the register of the image, which keeps the rules
-formed : (c : tie.After-task-of) → T (wellFormed (c .before .before .before .before .before .before .before .load .result .register))
+formed : (c : tie.After-task-of) → T (wellFormed (c .before .before .before .before .before .before .read-checked .result .register))
 formed c =
-    let a = c .before .before .before .before .before .before .before .before .before .before .before .args in
-    let load = c .before .before .before .before .before .before .before .load in
-    loaded-formed (a .image .now) (a .line .now) (length (a .area .now)) (load .result) (load .ensures) (not-false (load .result .ok) (c .before .before .before .before .before .before .if1 .left))
+    let a = c .before .before .before .before .before .before .before .before .before .before .args in
+    let load = c .before .before .before .before .before .before .read-checked in
+    loaded-formed (a .image .now) (a .line .now) (length (a .area .now)) (load .result) (load .ensures) (not-false (load .result .exact) (c .before .before .before .before .before .if1 .left))
 
 comes : (c : tie.After-task-of) →
-    let a = c .before .before .before .before .before .before .before .before .before .before .before .args in
-    performed (length (a .area .now)) (c .before .before .before .before .before .before .before .load .result .register) (callOf (c .before .before .before .parsed .given .0 .0)) ≡ entry (a .image .now) (a .line .now) (length (a .area .now))
+    let a = c .before .before .before .before .before .before .before .before .before .before .args in
+    performed (length (a .area .now)) (c .before .before .before .before .before .before .read-checked .result .register) (callOf (c .before .before .parsed .given .0 .0)) ≡ entry (a .image .now) (a .line .now) (length (a .area .now))
 comes c =
-    let a = c .before .before .before .before .before .before .before .before .before .before .before .args in
-    let load = c .before .before .before .before .before .before .before .load in
-    by-call (a .image .now) (a .line .now) (length (a .area .now)) (load .result) (load .ensures) (not-false (load .result .ok) (c .before .before .before .before .before .before .if1 .left)) _ (c .before .before .before .before .before .sole-line .ensures) _ (c .before .before .before .parsed .given .1)
+    let a = c .before .before .before .before .before .before .before .before .before .before .args in
+    let load = c .before .before .before .before .before .before .read-checked in
+    by-call (a .image .now) (a .line .now) (length (a .area .now)) (load .result) (load .ensures) (not-false (load .result .exact) (c .before .before .before .before .before .if1 .left)) _ (c .before .before .before .before .sole-line .ensures) _ (c .before .before .parsed .given .1)
 
 answer-one-requires : tie.Need-answer-one-requires
 answer-one-requires c κs =
-    (formed (c .before .before .before .before), fits (c .before .before .before .before .before .before .before .parsed .given .0 .0) _ _ (c .before .before .before .before .task-of .ensures) (c .before .before .task .given .1))
+    (formed (c .before .before .before .before), fits (c .before .before .before .before .before .before .parsed .given .0 .0) _ _ (c .before .before .before .before .task-of .ensures) (c .before .before .task .given .1))
 
 answer-any-requires : tie.Need-answer-any-requires
 answer-any-requires c κs = formed (c .before .before .before)
 
 returns-3 : tie.Need-returns-3
 returns-3 c =
-    let a = c .before .before .before .before .before .before .before .before .before .before .before .before .before .before .before .before .before .before .args in
+    let a = c .before .before .before .before .before .before .before .before .before .before .before .before .before .before .before .before .before .args in
     let z = c .before .before .answer-one .result in
-    let q = called (c .before .before .before .before .before .before .before .before .before .before .parsed .given .0 .0) _ _ (c .before .before .before .before .before .before .before .task-of .ensures) (c .before .before .before .before .before .task .given .1) in
-    let same = leaves-by (a .area .now) _ _ (ap (performed (length (a .area .now)) (c .before .before .before .before .before .before .before .before .before .before .before .before .before .before .load .result .register)) q ∙ comes (c .before .before .before .before .before .before .before)) in
+    let q = called (c .before .before .before .before .before .before .before .before .before .parsed .given .0 .0) _ _ (c .before .before .before .before .before .before .before .task-of .ensures) (c .before .before .before .before .before .task .given .1) in
+    let same = leaves-by (a .area .now) _ _ (ap (performed (length (a .area .now)) (c .before .before .before .before .before .before .before .before .before .before .before .before .before .read-checked .result .register)) q ∙ comes (c .before .before .before .before .before .before .before)) in
     (toZ-ofZ w64 z (sfits-of {w = w64} {z = z} (c .before .before .answer-one .ok)) ∙ c .before .before .answer-one .ensures .0 ∙ same .0, c .before .before .answer-one .ensures .1 ∙ same .1)
 
 returns-4 : tie.Need-returns-4
 returns-4 c =
-    let a = c .before .before .before .before .before .before .before .before .before .before .before .before .before .before .before .before .before .args in
+    let a = c .before .before .before .before .before .before .before .before .before .before .before .before .before .before .before .before .args in
     let z = c .before .before .answer-any .result in
     let same = leaves-by (a .area .now) _ _ (comes (c .before .before .before .before .before .before)) in
     (toZ-ofZ w64 z (sfits-of {w = w64} {z = z} (c .before .before .answer-any .ok)) ∙ c .before .before .answer-any .ensures .0 ∙ same .0, c .before .before .answer-any .ensures .1 ∙ same .1)
