@@ -11,6 +11,7 @@ ghost use Rattle.model.specs.Requests.{refusalNumber, callOf, parsedCall};
 ghost use Rattle.model.specs.Entry.{fitted, soleLine, entry, returned, bufferAfter};
 ghost use Rattle.calls.specs.Decide.{isOne};
 ghost use Rattle.fellunqa.specs.Perform.{performed};
+use answers::refusal_number;
 use calls::apply::apply_trusted;
 use calls::one::Indices;
 use calls::one::decide;
@@ -31,10 +32,9 @@ use places::seen;
 use places::session_at;
 use places::task_of;
 use places::user_at;
+use requests::parse;
 use revocation::columns::permissions_of;
-use text::answers::refusal_number;
 use text::parts::count_before;
-use text::requests::parse;
 
 // "one line with its line feed (any other bytes get 1)"
 fn sole_line(line: &[u8]) -> Parsed

@@ -30,9 +30,9 @@ use Rattle.model.proofs.Settling.{step-settled}
 use Rattle.model.proofs.Rules.{kept→, kept←}
 use Rattle.model.proofs.Running.{step-keeps}
 use Rattle.text.specs.Parts.{before}
-use Rattle.text.specs.Writing.{written, filled}
 use Rattle.text.proofs.TranscriptLaws.{transcript-line}
-use Rattle.text.proofs.WriteLaws.{written-room, filled-room}
+use Rattle.answers.specs.Writing.{written, filled}
+use Rattle.answers.proofs.WriteLaws.{written-room, filled-room}
 use Rattle.slots.proofs.TermLaws.{Column}
 use Rattle.places.specs.Requests.{roleHeld, capabilityHeld}
 use Rattle.sessions.specs.Origins.{OnPlaced}

@@ -18,7 +18,7 @@ use Rattle.model.specs.Lines.{Form, forms, byWord, request, parse, decimal, ans
 use Rattle.model.specs.Journal.{requested, lineEffect, unended, transcript}
 use Rattle.text.specs.Parts.{before, after}
 use Rattle.text.proofs.PartLaws.{split-before}
-use Rattle.text.proofs.AnswerLaws.{printed-most}
+use Rattle.answers.proofs.AnswerLaws.{printed-most}
 
 -- ---- a line of at most one byte is no request
 

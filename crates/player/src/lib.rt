@@ -7,6 +7,7 @@ ghost use Rattle.model.specs.Journal.{transcript};
 ghost use Rattle.player.specs.Play.{journalLength, journalBuffer};
 use crate::step::Step;
 use crate::step::step_of;
+use answers::print;
 use calls::apply::order_of;
 use calls::one::decide;
 use model::Answer;
@@ -26,7 +27,6 @@ use revocation::orders::Order;
 use revocation::sweeps::sweep_all;
 use rules::well_formed;
 use sessions::answer_check;
-use text::answers::print;
 use text::parts::count_before;
 
 mod step;

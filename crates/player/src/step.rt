@@ -7,7 +7,7 @@ use model::Request;
 use places::Task;
 use places::TreeCall;
 use places::task_of;
-use text::requests::parse;
+use requests::parse;
 
 pub enum Step {
     Refuse(Refusal),

@@ -1,8 +1,5 @@
 -- Laws of the definitions of specs/ and of document 01's lines.
 pub mod PartLaws
 pub mod NumberLaws
-pub mod WordLaws
 pub mod ArgumentLaws
-pub mod WriteLaws
-pub mod AnswerLaws
 pub mod TranscriptLaws

@@ -1,7 +1,4 @@
-// Lines of the journal: the parser of requests and the printer of answers.
-pub mod answers;
-mod arguments;
-mod numbers;
+// Lines of the journal: their parts, the numbers and the other arguments in them.
+pub mod arguments;
+pub mod numbers;
 pub mod parts;
-pub mod requests;
-mod words;

@@ -6,7 +6,7 @@ use Rattle.masks.specs.Bytes.{split}
 use Rattle.model.specs.Rulings.{refused}
 use Rattle.model.specs.Lines.{printed}
 use Rattle.model.specs.Journal.{transcript}
-use Rattle.text.proofs.AnswerLaws.{printed-room, printed-most}
+use Rattle.answers.proofs.AnswerLaws.{printed-room, printed-most}
 use Rattle.player.proofs.Laws.{journal-long, journal-short, no-room, with-room}
 use Rattle.player.proofs.journal.Statement.{statement}
 use Rattle.player.proofs.journal.Tie as tie

@@ -25,8 +25,8 @@ use Rattle.revocation.specs.Sweeping.{orderEffect}
 use Rattle.calls.proofs.Columns.{column-put}
 use Rattle.calls.proofs.Commits.{placed, commit}
 use Rattle.text.specs.Parts.{before}
-use Rattle.text.specs.Writing.{written, filled}
 use Rattle.text.proofs.TranscriptLaws.{transcript-last, transcript-done}
+use Rattle.answers.specs.Writing.{written, filled}
 use Rattle.player.specs.declared.step.Step.the-variants.{Refuse}
 use Rattle.player.specs.Steps.{Fits}
 use Rattle.player.proofs.Laws.{Playing, left-fits, to-within, turn, no-wrap, line-done, check-done, formed-after, answer-last, answer-size, unended-some}

@@ -1,0 +1,28 @@
+-- Laws of writing into a buffer and into parts of it.
+use mathlib.Core.Path.{_≡_}
+use mathlib.Core.List.{List}
+use Prim.Native.Nat.{ℕ, _≤_, _<_}
+use borrow.Author.Tests.{le-leb, lt-leb}
+use lib.ListN.{length}
+use Rattle.masks.specs.Bytes.{front}
+use Rattle.answers.specs.Writing.{written, filled}
+
+-- ---- room for a text
+
+module _ (text s : List ℕ) (h : length text ≤ length s) where
+  pub written-room : written text s ≡ front text s
+  unfolding written
+  written-room = rw (le-leb _ _ h)
+
+  pub filled-room : filled text s ≡ length text
+  unfolding filled
+  filled-room = rw (le-leb _ _ h)
+
+module _ (text s : List ℕ) (h : length s < length text) where
+  pub written-short : written text s ≡ s
+  unfolding written
+  written-short = rw (lt-leb _ _ h)
+
+  pub filled-short : filled text s ≡ 0
+  unfolding filled
+  filled-short = rw (lt-leb _ _ h)

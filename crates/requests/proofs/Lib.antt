@@ -1,0 +1,2 @@
+-- Laws of the request words.
+pub mod WordLaws
