@@ -24,10 +24,10 @@ use places::seen;
 use places::session_at;
 use places::task_of;
 use places::user_at;
-use revocation::columns::permissions_of;
 use revocation::orders::Order;
-use revocation::sweeps::sweep_all;
 use rules::well_formed;
+use sweeps::permissions_of;
+use sweeps::sweep_all;
 
 // One request of a list.
 pub struct Item {

@@ -4,7 +4,7 @@ ghost use lib.Dec.{T};
 ghost use Rattle.model.specs.Rules.{wellFormed};
 ghost use Rattle.model.specs.Calls.{settled, step};
 ghost use Rattle.model.specs.Requests.{effectOf, callOf};
-ghost use Rattle.revocation.specs.Sweeping.{orderEffect};
+ghost use Rattle.revocation.specs.Orders.{orderEffect};
 ghost use Rattle.calls.specs.Decide.{treeCall};
 use crate::one::apply_one;
 use model::Answer;
@@ -16,13 +16,13 @@ use places::Task;
 use places::TreeCall;
 use places::task_of;
 use revocation::amending::amend_order;
-use revocation::columns::permissions_of;
 use revocation::comparing::same_order;
 use revocation::orders::Order;
 use revocation::revoking::revoke_order;
-use revocation::sweeps::sweep_all;
 use revocation::withdrawing::withdraw_order;
 use rules::well_formed;
+use sweeps::permissions_of;
+use sweeps::sweep_all;
 
 // What a call over the whole tree comes to, on a register that is known to be well-formed: nothing changes yet.
 pub fn order_of(r: Register, t: TreeCall) -> Order

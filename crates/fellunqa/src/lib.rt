@@ -33,7 +33,7 @@ use places::session_at;
 use places::task_of;
 use places::user_at;
 use requests::parse;
-use revocation::columns::permissions_of;
+use sweeps::permissions_of;
 use text::parts::count_before;
 
 // "one line with its line feed (any other bytes get 1)"

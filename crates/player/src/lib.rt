@@ -22,11 +22,11 @@ use places::role_held;
 use places::seen;
 use places::session_at;
 use places::user_at;
-use revocation::columns::permissions_of;
 use revocation::orders::Order;
-use revocation::sweeps::sweep_all;
 use rules::well_formed;
 use sessions::answer_check;
+use sweeps::permissions_of;
+use sweeps::sweep_all;
 use text::parts::count_before;
 
 mod step;

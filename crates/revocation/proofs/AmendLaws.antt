@@ -29,12 +29,13 @@ use Rattle.slots.specs.declared.checks.Check.the-variants.{Pass, Refuse}
 use Rattle.slots.specs.Checks.{checked, firstNumber}
 use Rattle.slots.proofs.CheckLaws.{in-range}
 use Rattle.slots.proofs.SlotLaws.{settle-after}
+use Rattle.sweeps.specs.declared.Sweep.the-variants.{Limit}
+use Rattle.sweeps.specs.Sweeping.{parentPlace, parentLimit, sweptBy}
+use Rattle.sweeps.proofs.SweepLaws.{parent-limit}
 use Rattle.revocation.specs.declared.amending.Amendment.{Amendment}
-use Rattle.revocation.specs.declared.sweeps.Sweep.the-variants.{Limit}
-use Rattle.revocation.specs.Sweeping.{parentPlace, parentLimit, amendmentOf, sweptBy}
+use Rattle.revocation.specs.Orders.{amendmentOf}
 use Rattle.revocation.specs.Guards.{amendGuards}
 use Rattle.slots.proofs.SettleLaws.{settle-past, refuse-settled, pass-settled}
-use Rattle.revocation.proofs.SweepLaws.{parent-limit}
 
 -- ---- what a change asks for
 

@@ -1,8 +1,6 @@
--- Laws of the columns, the lineage and the sweeps.
-pub mod ColumnLaws
+-- Laws of the lineage and of the calls over the whole tree.
 pub mod Ascent
 pub mod Recursion
-pub mod SweepLaws
 pub mod RevokeLaws
 pub mod SameLaws
 pub mod AmendLaws

@@ -6,8 +6,9 @@ use Rattle.model.specs.Rulings.{refused, Effect}
 use Rattle.model.specs.Requests.{refusalNumber}
 use Rattle.slots.specs.declared.checks.Check.{Check}
 use Rattle.slots.specs.declared.checks.Check.the-variants.{Pass, Refuse}
-use Rattle.revocation.specs.declared.sweeps.Sweep.{Sweep}
-use Rattle.revocation.specs.Sweeping.{sweptBy, orderEffect, orderedBy}
+use Rattle.sweeps.specs.declared.Sweep.{Sweep}
+use Rattle.sweeps.specs.Sweeping.{sweptBy}
+use Rattle.revocation.specs.Orders.{orderEffect, orderedBy}
 
 pub order-by : (r : Register) (e : Effect) (k : Check) (s : Sweep) → ((why : Refusal) → k ≡ Refuse why → record { answer = refused (refusalNumber why); after = r } ≡ e)
     → (k ≡ Pass → sweptBy r s ≡ e) → orderEffect r (orderedBy k s) ≡ e

@@ -30,8 +30,8 @@ use Rattle.slots.specs.declared.checks.Check.{Check}
 use Rattle.slots.specs.declared.checks.Check.the-variants.{Pass, Refuse}
 use Rattle.slots.specs.Checks.{checked, firstNumber}
 use Rattle.slots.proofs.CheckLaws.{in-range}
-use Rattle.revocation.specs.declared.sweeps.Sweep.the-variants.{Mark}
-use Rattle.revocation.specs.Sweeping.{newlyBy, sweptBy}
+use Rattle.sweeps.specs.declared.Sweep.the-variants.{Mark}
+use Rattle.sweeps.specs.Sweeping.{newlyBy, sweptBy}
 use Rattle.revocation.specs.Guards.{revokeGuards}
 use Rattle.revocation.specs.Tree.{lineageHas}
 use Rattle.slots.proofs.SettleLaws.{settle-past, refuse-settled, pass-settled}

@@ -16,8 +16,8 @@ use Rattle.model.specs.Comparison.{domainOf, alike, sameRuling}
 use Rattle.model.specs.Calls.{same, ruling, settled}
 use Rattle.slots.proofs.CheckLaws.{in-range, conj-each}
 use Rattle.slots.proofs.TermLaws.{Column, lent-column}
+use Rattle.sweeps.specs.Sweeping.{oneIf}
 use Rattle.revocation.specs.Guards.{sameGuards, sameAnswer}
-use Rattle.revocation.specs.Sweeping.{oneIf}
 use Rattle.revocation.specs.Tree.{lineageEnd}
 use Rattle.slots.proofs.SettleLaws.{settle-past, settle-same}
 use Rattle.revocation.proofs.Ascent.{Origins, root-is}

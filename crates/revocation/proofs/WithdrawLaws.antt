@@ -19,9 +19,9 @@ use Rattle.slots.specs.declared.checks.Check.{Check}
 use Rattle.slots.specs.declared.checks.Check.the-variants.{Pass, Refuse}
 use Rattle.slots.specs.Checks.{checked, firstNumber}
 use Rattle.slots.proofs.CheckLaws.{in-range}
-use Rattle.revocation.specs.declared.sweeps.Sweep.the-variants.{Cut}
+use Rattle.sweeps.specs.declared.Sweep.the-variants.{Cut}
+use Rattle.sweeps.specs.Sweeping.{sweptBy}
 use Rattle.revocation.specs.Guards.{withdrawGuards}
-use Rattle.revocation.specs.Sweeping.{sweptBy}
 use Rattle.slots.proofs.SettleLaws.{settle-past, refuse-settled, pass-settled}
 
 -- the register after the sweep over the capabilities, by the roles after the permission is taken from role j

@@ -10,8 +10,8 @@ use Rattle.model.specs.declared.Capability.{Capability}
 use Rattle.model.specs.Rules.{isUser, isRole, isPermission, isCapability}
 use Rattle.model.specs.Rulings.{Outcome, Guard, _unless_, _when_}
 use Rattle.model.proofs.Settling.{verdict}
+use Rattle.sweeps.specs.Sweeping.{oneIf}
 use Rattle.revocation.specs.declared.amending.Amendment.{Amendment}
-use Rattle.revocation.specs.Sweeping.{oneIf}
 
 abbrev pub revokeGuards : ℕ → ℕ → ℕ → ℕ → Bool → Bool → List Guard
 revokeGuards enrolled count user n entitled revoked =

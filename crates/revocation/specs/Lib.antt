@@ -1,4 +1,4 @@
--- The sweeps and the recursion up the creation tree: what their contracts cite.
+-- The recursion up the creation tree, the orders and the refusals: what the contracts cite.
 pub mod Tree
-pub mod Sweeping
+pub mod Orders
 pub mod Guards

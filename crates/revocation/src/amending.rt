@@ -7,12 +7,9 @@ ghost use Rattle.model.specs.Calls.{settled, amend};
 ghost use Rattle.model.specs.Requests.{changeOf};
 ghost use Rattle.slots.specs.Checks.{checked, firstNumber};
 ghost use Rattle.revocation.specs.Guards.{amendGuards};
-ghost use Rattle.revocation.specs.Sweeping.{amendmentOf, orderEffect};
+ghost use Rattle.revocation.specs.Orders.{amendmentOf, orderEffect};
 use crate::orders::Order;
 use crate::orders::ordered;
-use crate::sweeps::Sweep;
-use crate::sweeps::parent_limit;
-use crate::sweeps::parent_of;
 use masks::member;
 use model::Capability;
 use model::Change;
@@ -20,6 +17,9 @@ use model::Refusal;
 use model::Register;
 use slots::checks::Check;
 use slots::checks::first;
+use sweeps::Sweep;
+use sweeps::parent_limit;
+use sweeps::parent_of;
 
 // What a change asks for: it is in its range, is 0, would fall below 0; and the limit after it.
 pub struct Amendment {

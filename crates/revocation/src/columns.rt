@@ -1,26 +1,11 @@
-// Columns of the register: one number of each role or capability, to be lent where the register would be copied.
+// Columns of the register: one number of each capability, to be lent where the register would be copied.
 ghost use mathlib.Core.Path.{_≡_};
 ghost use Prim.Native.Nat.{ℕ, _<_};
 ghost use lib.ListN.{getD};
-ghost use Rattle.model.specs.State.{roleAuthority, capabilityAt, originAt};
+ghost use Rattle.model.specs.State.{capabilityAt, originAt};
 ghost use Rattle.revocation.specs.Tree.{originCode};
 use model::Origin;
 use model::Register;
-use model::Role;
-
-// What each role grants.
-pub fn permissions_of(roles: [Role; 32]) -> [u32; 32]
-    ensures { λ q. ⌜ ((k : ℕ) → k < 32 → getD q k 0 ≡ roleAuthority roles k) ⌝ }
-{
-    let mut column = [0u32; 32];
-    let mut i: usize = 0;
-    while i < 32 {
-        let x = roles[i];
-        column[i] = x.permissions;
-        i = i + 1;
-    }
-    column
-}
 
 // An origin as a number: a capability's own, and for a role one above all of them.
 pub fn code_of(o: Origin) -> u16

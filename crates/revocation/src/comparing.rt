@@ -6,12 +6,10 @@ ghost use Rattle.model.specs.Calls.{settled, same};
 ghost use Rattle.model.specs.Requests.{outcomeOf};
 ghost use Rattle.slots.specs.Checks.{checked, firstNumber};
 ghost use Rattle.revocation.specs.Guards.{sameGuards, sameAnswer};
-ghost use Rattle.revocation.specs.Sweeping.{orderEffect};
+ghost use Rattle.revocation.specs.Orders.{orderEffect};
 use crate::columns::lineage_of;
-use crate::columns::permissions_of;
 use crate::lineage::root_of;
 use crate::orders::Order;
-use crate::sweeps::one_if;
 use masks::join;
 use model::Answer;
 use model::Capability;
@@ -19,6 +17,8 @@ use model::Refusal;
 use model::Register;
 use slots::checks::Check;
 use slots::checks::first;
+use sweeps::one_if;
+use sweeps::permissions_of;
 
 pub fn same_check(count: u16, m: u32, n: u32) -> Check
     ensures { λ q. ⌜ checked q ≡ firstNumber (sameGuards count m n) ⌝ }

@@ -1,9 +1,8 @@
-// The calls that sweep over all capabilities (revoke, amend, withdraw), and the recursion up the creation tree, which revoke and same use.
+// The calls over the whole creation tree: each comes to an answer or a sweep; revoke and same go up the tree by recursion.
 pub mod amending;
 pub mod columns;
 pub mod comparing;
 mod lineage;
 pub mod orders;
 pub mod revoking;
-pub mod sweeps;
 pub mod withdrawing;

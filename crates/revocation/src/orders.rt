@@ -1,9 +1,9 @@
 // What a call over the whole tree comes to, before anything changes.
 ghost use mathlib.Core.Path.{_≡_};
-ghost use Rattle.revocation.specs.Sweeping.{orderedBy};
-use crate::sweeps::Sweep;
+ghost use Rattle.revocation.specs.Orders.{orderedBy};
 use model::Answer;
 use slots::checks::Check;
+use sweeps::Sweep;
 
 // An answer with the register as it was, or a sweep.
 pub enum Order {

@@ -5,17 +5,17 @@ ghost use Rattle.model.specs.Rules.{wellFormed};
 ghost use Rattle.model.specs.Calls.{settled, revoke};
 ghost use Rattle.slots.specs.Checks.{checked, firstNumber};
 ghost use Rattle.revocation.specs.Guards.{revokeGuards};
-ghost use Rattle.revocation.specs.Sweeping.{orderEffect};
+ghost use Rattle.revocation.specs.Orders.{orderEffect};
 use crate::columns::lineage_of;
 use crate::lineage::created;
 use crate::orders::Order;
 use crate::orders::ordered;
-use crate::sweeps::Sweep;
 use masks::member;
 use model::Refusal;
 use model::Register;
 use slots::checks::Check;
 use slots::checks::first;
+use sweeps::Sweep;
 
 // `entitled` says whether the user created the capability or one on its lineage, `revoked` whether it is revoked already.
 pub fn revoke_check(

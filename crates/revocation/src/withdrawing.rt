@@ -5,10 +5,9 @@ ghost use Rattle.model.specs.Rules.{wellFormed};
 ghost use Rattle.model.specs.Calls.{settled, withdraw};
 ghost use Rattle.slots.specs.Checks.{checked, firstNumber};
 ghost use Rattle.revocation.specs.Guards.{withdrawGuards};
-ghost use Rattle.revocation.specs.Sweeping.{orderEffect};
+ghost use Rattle.revocation.specs.Orders.{orderEffect};
 use crate::orders::Order;
 use crate::orders::ordered;
-use crate::sweeps::Sweep;
 use masks::excluding32;
 use masks::member;
 use model::Refusal;
@@ -16,6 +15,7 @@ use model::Register;
 use model::Role;
 use slots::checks::Check;
 use slots::checks::first;
+use sweeps::Sweep;
 
 pub fn withdraw_check(x: Role, role: u32, permission: u32) -> Check
     ensures { λ q. ⌜ checked q ≡ firstNumber (withdrawGuards x role permission) ⌝ }

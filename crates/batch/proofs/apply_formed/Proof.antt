@@ -8,7 +8,7 @@ use Rattle.model.specs.Calls.{settled}
 use Rattle.model.specs.Requests.{effectOf}
 use Rattle.model.proofs.Rules.{kept→}
 use Rattle.slots.specs.Slots.{put, lifted, ruledOf}
-use Rattle.revocation.specs.Sweeping.{orderEffect}
+use Rattle.revocation.specs.Orders.{orderEffect}
 use Rattle.calls.proofs.Columns.{column-put}
 use Rattle.calls.proofs.Commits.{placed, commit}
 use Rattle.calls.proofs.Tasks.{called, fits}

@@ -21,7 +21,7 @@ use Rattle.model.specs.Journal.{lineEffect, transcript}
 use Rattle.model.proofs.Rules.{kept→}
 use Rattle.slots.specs.Slots.{put, lifted, ruledOf}
 use Rattle.slots.proofs.TermLaws.{Column}
-use Rattle.revocation.specs.Sweeping.{orderEffect}
+use Rattle.revocation.specs.Orders.{orderEffect}
 use Rattle.calls.proofs.Columns.{column-put}
 use Rattle.calls.proofs.Commits.{placed, commit}
 use Rattle.text.specs.Parts.{before}

@@ -2,7 +2,7 @@
 use borrow.Author.Needs.{needs}
 use mathlib.Core.Path.{sym, ap, _∙_}
 use Rattle.model.proofs.Rules.{kept→}
-use Rattle.revocation.specs.Sweeping.{orderEffect}
+use Rattle.revocation.specs.Orders.{orderEffect}
 use Rattle.calls.proofs.apply.apply_tree.Statement.{statement}
 use Rattle.calls.proofs.apply.apply_tree.Tie as tie
 

@@ -3,8 +3,8 @@ use borrow.Author.Needs.{needs}
 use mathlib.Core.Path.{ap, _∙_}
 use Rattle.model.specs.Requests.{changeOf}
 use Prim.Native.Nat.{_%_}
-use Rattle.revocation.specs.declared.sweeps.Sweep.the-variants.{Limit}
-use Rattle.revocation.specs.Sweeping.{orderEffect}
+use Rattle.sweeps.specs.declared.Sweep.the-variants.{Limit}
+use Rattle.revocation.specs.Orders.{orderEffect}
 use Rattle.revocation.proofs.OrderLaws.{order-by}
 use Rattle.revocation.proofs.AmendLaws.{amend-refused, amend-passed}
 use Rattle.revocation.proofs.amending.amend_order.Statement.{statement}

@@ -5,8 +5,8 @@ use Prim.Native.Nat.{ℕ, _≤_, _<_, _-_}
 use native.Mathlib.Omega.{arith}
 use lib.ListN.{getD, length, length-set}
 use Rattle.model.specs.State.{capabilityAt, originAt}
+use Rattle.sweeps.proofs.ColumnLaws.{column-more}
 use Rattle.revocation.specs.Tree.{originCode}
-use Rattle.revocation.proofs.ColumnLaws.{column-more}
 use Rattle.revocation.proofs.columns.lineage_of.Statement.{statement}
 use Rattle.revocation.proofs.columns.lineage_of.Tie as tie
 

@@ -2,8 +2,8 @@
 use borrow.Author.Needs.{needs}
 use mathlib.Core.Path.{ap, _∙_}
 use Prim.Native.Nat.{_%_}
-use Rattle.revocation.specs.declared.sweeps.Sweep.the-variants.{Cut}
-use Rattle.revocation.specs.Sweeping.{orderEffect}
+use Rattle.sweeps.specs.declared.Sweep.the-variants.{Cut}
+use Rattle.revocation.specs.Orders.{orderEffect}
 use Rattle.revocation.proofs.OrderLaws.{order-by}
 use Rattle.revocation.proofs.WithdrawLaws.{withdraw-refused, withdraw-passed}
 use Rattle.revocation.proofs.withdrawing.withdraw_order.Statement.{statement}

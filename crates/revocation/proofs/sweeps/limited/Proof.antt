@@ -1,9 +1,0 @@
--- `revocation::sweeps::limited` meets its contract.
-use Rattle.revocation.proofs.sweeps.limited.Statement.{statement}
-use Rattle.revocation.proofs.sweeps.limited.Tie as tie
-
-returns : tie.Need-returns
-returns c = rw (c .limit-for .ensures, c .before .parent-limit .ensures)
-
-pub limited-spec : {M : Type 1} → statement M
-limited-spec = tie.close (tie.spec (λ c κs. tt) (λ c κs. tt) returns)

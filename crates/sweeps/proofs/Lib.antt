@@ -1,0 +1,3 @@
+-- Laws of columns and of the sweep.
+pub mod ColumnLaws
+pub mod SweepLaws

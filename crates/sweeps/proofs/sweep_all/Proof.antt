@@ -1,0 +1,68 @@
+-- `sweeps::sweep_all` meets its contract.
+use borrow.Author.Needs.{needs}
+use mathlib.Core.Path.{_≡_, refl, ap, _∙_}
+use Prim.Native.Nat.{_≤_, _-_}
+use native.Mathlib.Omega.{arith}
+use lib.ListN.{length}
+use Rattle.masks.specs.Tests.{countBelow, rising}
+use Rattle.model.specs.State.{blankCapability}
+use Rattle.model.specs.Setters.{withCapabilities}
+use Rattle.sweeps.specs.Sweeping.{sweepOne, newlyBy}
+use Rattle.sweeps.proofs.SweepLaws.{sweep-more, sweep-done, count-more, one-le, newly-step, swept-step, after-amount}
+use Rattle.sweeps.proofs.sweep_all.Statement.{statement}
+use Rattle.sweeps.proofs.sweep_all.Tie as tie
+
+abbrev Inv-loop : tie.InvT-loop
+Inv-loop s permissions next₀ marks₀ i₀ next marks i =
+    (i ≤ 256) × (marks ≤ i)
+    × (next ≡ withCapabilities next₀ (rising blankCapability (sweepOne (next₀ .roles) s) i (next₀ .capabilities)))
+    × (marks ≡ countBelow i (newlyBy (sweepOne (next₀ .roles) s) (next₀ .capabilities)))
+
+abbrev μ-loop : tie.MeasureT-loop
+μ-loop s permissions next₀ marks₀ i₀ next marks i = 256 - i
+
+loop-holds : tie.Need-loop-holds Inv-loop μ-loop
+unfolding rising countBelow
+loop-holds c = (search needs, search needs, refl, refl)
+
+add-marks : tie.Need-add-marks Inv-loop μ-loop
+add-marks c =
+    let t = c .before .before .before .before .before .before .before .before in
+    omega (arith, t .before .loop .inv .1, t .loop-test, one-le _ (c .one-if .ensures))
+
+loop-again : tie.Need-loop-again Inv-loop μ-loop
+loop-again c =
+    let w = c .before .before .before in
+    let g = w .before .before .before .before .before .before in
+    let l = g .loop in
+    let a = g .before .before .roles-after in
+    let s = g .before .before .before .before in
+    let amount : length (a .result) ≡ 32 = ap length (a .ensures) ∙ after-amount (s .args .r .roles) (s .args .s) ∙ s .pre in
+    let d = swept-step _ (l .next .capabilities) _ (g .before .permissions-of .ensures) amount (s .args .s) (l .i) _ _ (w .before .before .before .parent-of .ensures) (w .swept .ensures) in (
+      search needs,
+      omega (arith, l .inv .1, one-le _ (c .one-if .ensures)),
+      sweep-more _ _ (l .next) (l .i) _ (l .inv .2) d,
+      count-more _ (l .i) _ (l .inv .3) (c .one-if .ensures) (newly-step _ (l .i) _ (l .next) _ (l .inv .2) d),
+    )
+
+returns : tie.Need-returns Inv-loop μ-loop
+returns c =
+    let g = c .before .before in
+    let l = g .loop in
+    let s = g .before .before .before .before in
+    sweep-done (s .args .r) (s .args .s) _ (l .next) (l .marks) (l .i) _ (g .before .before .roles-after .ensures) (l .inv .2) (l .inv .3) (omega arith) (c .value-of .ensures)
+
+pub sweep-all-spec : {M : Type 1} → statement M
+sweep-all-spec =
+    tie.close
+    (tie.spec
+    Inv-loop
+    μ-loop
+    (λ c κs. search needs) (λ c κs. search needs)
+    loop-holds
+    (λ c. search needs) (λ c. search needs) (λ c κs. search needs) (λ c. search needs) (λ c. search needs) (λ c. search needs) (λ c κs. search needs) (λ c. search needs) (λ c. search needs) (λ c κs. search needs)
+    add-marks
+    (λ c. search needs) (λ c. search needs)
+    loop-again
+    (λ c κs. search needs)
+    returns)

@@ -1,0 +1,2 @@
+-- The rising sweep: what its contracts cite.
+pub mod Sweeping
