@@ -20,11 +20,12 @@ use Rattle.model.specs.declared.Register.{Register}
 use Rattle.model.specs.State.{Terms, terms, claims, below, exists, authority, lentAuthority, roleAuthority, admitted, inContext, roleAt, capabilityAt, sessionAt, blankRole, blankCapability, blankSession}
 use Rattle.model.specs.Lineage.{children}
 use Rattle.model.specs.Rules.{isOrigin, isUser, isDomain, bits, userKeeps, roleBlank, sameDomain, roleKeeps, capabilityBlank, rangeTests, inRange, allFounded, earlier, ownKeeps, capabilityKeeps, placeKeeps, sessionBlank, sessionKeeps, wellFormed}
-use Rattle.rules.specs.declared.limits.Limits.{Limits}
+use Rattle.entries.specs.declared.limits.Limits.{Limits}
+use Rattle.entries.specs.Limits.{numberOf, limitsOf, asTerms, roleKeepsWith, placeWith, sessionKeepsWith}
+use Rattle.entries.proofs.Laws.{fromLeft, left-each}
 use Rattle.rules.specs.Columns.{masked, isFounded, inDomain, BlankFrom}
-use Rattle.rules.specs.Limits.{numberOf, limitsOf, asTerms, roleKeepsWith, placeWith, sessionKeepsWith}
 use Rattle.masks.proofs.JoinLaws.{joined-same}
-use Rattle.rules.proofs.Laws.{fromLeft, left-each, all-below, all-rest, each-under, within-masked}
+use Rattle.rules.proofs.Laws.{all-below, all-rest, each-under, within-masked}
 
 -- ---- origins: a role's number is below 32
 

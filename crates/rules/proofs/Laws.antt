@@ -1,63 +1,26 @@
 -- Laws that know nothing of the register.
 use mathlib.Core.Path.{_≡_, refl, ap, ap₂, _∙_, sym, subst}
 use mathlib.Core.Logic.{_⊎_, inl, inr}
-use mathlib.Core.Bool.{Bool, true, false, cond, not, _&&_, _||_, and-true, and-false, and-assoc, or-false}
+use mathlib.Core.Bool.{Bool, true, false, cond, not, _&&_, _||_, and-true, and-false, or-false}
 use mathlib.Core.List.{List, [], _∷_, _++_}
-use Prim.Native.Nat.{ℕ, zero, suc, _+_, _*_, _%_, _^_, _<_, _≤_}
-use native.Mathlib.Nat.{one-mul, div-eq-of-lt, lt-of-lt-of-le}
+use Prim.Native.Nat.{ℕ, zero, suc, _+_, _%_, _^_, _<_, _≤_}
 use native.Mathlib.Decide.{decLt}
 use native.Mathlib.Numerals.{add-one}
 use native.Mathlib.Omega.{arith}
 use borrow.Author.Count.{below-more}
 use borrow.Author.Tests.{lt-ltb, le-ltb, eq-eqb, eqb-false}
 use lib.Bits.{bitOr, or-zero-r}
-use lib.Dec.{T, not-T, lit<, eqb, ltb, eqb→eq, lt→ltb}
+use lib.Dec.{T, not-T, eqb, ltb, eqb→eq, lt→ltb}
 use lib.ListN.{length, getD, set}
-use lib.Pow.{shl-exact, pow-mono}
 use lib.Seq.{getD-set-same, getD-set-other}
-use Rattle.masks.specs.Masks.{has, within, joined}
+use Rattle.masks.specs.Masks.{has, within}
 use Rattle.masks.specs.Tests.{each, implies, allBelow, allFrom}
 use Rattle.masks.proofs.Truth.{Each, true→T, T→false, and-r, and-i, implies-i, implies-e, decided, same-test}
 use Rattle.masks.proofs.Bounded.{allBelow-at, allBelow-i, all-at, all-i}
 use Rattle.masks.proofs.MaskLaws.{has-zero, has-or, has-single, has-lt, within-has, has-within}
 use Rattle.rules.specs.Columns.{masked}
 
--- ---- machine numbers
-
--- the machine's `1 << k` at a width w above k
-pub one-shl : (w k : ℕ) → k < w → (1 * 2 ^ k) % 2 ^ w ≡ 2 ^ k
-one-shl w k h = shl-exact {a = 1} 1 k w (lit< tt) (omega arith) ∙ one-mul (2 ^ k)
-
--- a mask below 2 ^ w has no item from w on
-pub no-bit : (w m k : ℕ) → m < 2 ^ w → w ≤ k → has m k ≡ false
-unfolding has
-no-bit w m k h l = rw (div-eq-of-lt (lt-of-lt-of-le h (pow-mono l)))
-
 -- ---- tests
-
--- a choice by a test whose outcome is known
-pub cond-true : {A : Type 0} {t : Bool} (a b : A) → t ≡ true → cond t a b ≡ a
-cond-true a b e = rw e
-
-pub cond-false : {A : Type 0} {t : Bool} (a b : A) → t ≡ false → cond t a b ≡ b
-cond-false a b e = rw e
-
--- tests joined from the left, as code joins them
-abbrev pub joinedWith : Bool → List Bool → Bool
-joinedWith a [] = a
-joinedWith a (t ∷ ts) = joinedWith (a && t) ts
-
-joined-each : (a : Bool) (ts : List Bool) → joinedWith a ts ≡ (a && each ts)
-joined-each a [] = sym (and-true a)
-joined-each a (t ∷ ts) = joined-each (a && t) ts ∙ and-assoc a t (each ts)
-
-abbrev pub fromLeft : List Bool → Bool
-fromLeft [] = true
-fromLeft (t ∷ ts) = joinedWith t ts
-
-pub left-each : (ts : List Bool) → fromLeft ts ≡ each ts
-left-each [] = refl
-left-each (t ∷ ts) = joined-each t ts
 
 -- tests that agree where those before them pass
 pub each-under : (ts us vs : List Bool) → (Each ts → each us ≡ each vs) → each (ts ++ us) ≡ each (ts ++ vs)

@@ -1,107 +1,18 @@
 // The rules of the capabilities.
 ghost use mathlib.Core.Path.{_≡_};
 ghost use Prim.Native.Nat.{_≤_};
-ghost use Rattle.masks.specs.Tests.{each, allBelow};
+ghost use Rattle.masks.specs.Tests.{allBelow};
 ghost use Rattle.model.specs.State.{capabilityAt};
-ghost use Rattle.model.specs.Rules.{capabilityBlank, inRange, ownKeeps, placeKeeps};
-ghost use Rattle.rules.specs.Limits.{capabilityWith, placeWith};
-use crate::bits::has64;
+ghost use Rattle.model.specs.Rules.{placeKeeps};
 use crate::columns::bump;
 use crate::columns::founded_roles;
 use crate::columns::places;
 use crate::columns::role_permissions;
-use crate::limits::Limits;
-use crate::limits::is_below;
-use crate::limits::is_earlier;
-use crate::limits::is_origin;
-use crate::limits::is_role_zero;
-use crate::limits::limits_of;
-use crate::limits::number_of;
+use entries::capability::keeps_place;
+use entries::limits::limits_of;
+use entries::limits::number_of;
 use masks::join;
-use model::Capability;
 use model::Register;
-
-// What is kept for a capability not there is 0.
-pub fn is_blank(c: Capability) -> bool
-    ensures { λ q. ⌜ q ≡ capabilityBlank c ⌝ }
-{
-    let o = c.origin;
-    is_role_zero(o)
-        & (c.creator == 0)
-        & (c.permissions == 0)
-        & (c.lent == 0)
-        & (c.holders == 0)
-        & (c.first == 0)
-        & (c.last == 0)
-        & (c.use_limit == 0)
-        & (c.uses == 0)
-        & (c.creation_limit == 0)
-        & (c.creations == 0)
-        & (c.hop_limit == 0)
-        & (c.hops == 0)
-        & (c.hours == 0)
-        & (c.places == 0)
-        & (c.devices == 0)
-        & !c.revoked
-}
-
-// Every number is in its range; the types see to those that are not tested.
-pub fn is_ranged(c: Capability) -> bool
-    ensures { λ q. ⌜ q ≡ inRange c ⌝ }
-{
-    let o = c.origin;
-    is_origin(o) & (c.creator < 64) & (c.hours < 16777216)
-}
-
-// What a capability keeps by itself.
-pub fn keeps_own(enrolled: u64, c: Capability) -> bool
-    ensures { λ q. ⌜ q ≡ ownKeeps enrolled c ⌝ }
-{
-    has64(enrolled, c.creator)
-        & (c.holders & enrolled == c.holders)
-        & (c.first <= c.last)
-        & (c.hops as u32 == u64::count_ones(c.holders))
-        & (c.hops <= c.hop_limit)
-}
-
-// The rules of capability n, which is c.
-pub fn keeps_all(enrolled: u64, founded: u64, n: usize, u: Limits, made: u16, c: Capability) -> bool
-    ensures { λ q. ⌜ q ≡ each (capabilityWith enrolled founded n u made c) ⌝ }
-{
-    let o = c.origin;
-    let lent = c.lent as u64;
-    let ranged = is_ranged(c);
-    let placed = is_earlier(n, o);
-    let fits = is_below(c, u);
-    let own = keeps_own(enrolled, c);
-    ranged
-        & (lent & founded == lent)
-        & u.there
-        & placed
-        & fits
-        & (c.creations == made)
-        & (c.creations <= c.creation_limit)
-        & own
-}
-
-// The rules of place n.
-pub fn keeps_place(
-    enrolled: u64,
-    founded: u64,
-    count: u16,
-    n: usize,
-    u: Limits,
-    made: u16,
-    c: Capability,
-) -> bool
-    ensures { λ q. ⌜ q ≡ placeWith enrolled founded count n u made c ⌝ }
-{
-    if n < count as usize {
-        keeps_all(enrolled, founded, n, u, made, c)
-    } else {
-        is_blank(c)
-    }
-}
 
 // The rules of the places below the bound, up to the first that breaks them. How many were created from each capability is counted
 // first; a function of its own for that would copy the register.

@@ -3,9 +3,9 @@ ghost use mathlib.Core.Path.{_≡_};
 ghost use Prim.Native.Nat.{ℕ, _<_, _≤_};
 ghost use lib.ListN.{getD};
 ghost use Rattle.model.specs.State.{roleAt};
+ghost use Rattle.entries.specs.Limits.{numberOf};
 ghost use Rattle.rules.specs.Columns.{masked, isFounded, inDomain, bumped};
-ghost use Rattle.rules.specs.Limits.{numberOf};
-use crate::bits::single;
+use entries::bits::single;
 use model::Origin;
 use model::Role;
 

@@ -1,8 +1,6 @@
 // The test of all rules of the register, in one sweep.
-mod bits;
 mod capability;
 mod columns;
-mod limits;
 mod roles;
 mod sessions;
 

@@ -1,53 +1,12 @@
 // The rules of the sessions.
 ghost use mathlib.Core.Path.{_≡_};
-ghost use Rattle.masks.specs.Tests.{each, allBelow};
+ghost use Rattle.masks.specs.Tests.{allBelow};
 ghost use Rattle.model.specs.State.{sessionAt};
-ghost use Rattle.model.specs.Rules.{sessionBlank, sessionKeeps};
-ghost use Rattle.rules.specs.Limits.{sessionWith, sessionKeepsWith};
-use crate::bits::has64;
-use crate::limits::Limits;
-use crate::limits::admits;
-use crate::limits::is_origin;
-use crate::limits::is_role_zero;
-use crate::limits::limits_of;
-use crate::limits::number_of;
+ghost use Rattle.model.specs.Rules.{sessionKeeps};
+use entries::limits::limits_of;
+use entries::limits::number_of;
+use entries::sessions::session_keeps;
 use model::Register;
-use model::Session;
-
-// What is kept for a session not open is 0.
-pub fn is_blank(s: Session) -> bool
-    ensures { λ q. ⌜ q ≡ sessionBlank s ⌝ }
-{
-    let o = s.on;
-    let zero = is_role_zero(o);
-    (s.user == 0) & zero & (s.hour == 0) & (s.place == 0) & (s.device == 0)
-}
-
-// A session's context has its ranges and is admitted by its role or capability, which allows u.
-pub fn keeps_all(enrolled: u64, u: Limits, s: Session) -> bool
-    ensures { λ q. ⌜ q ≡ each (sessionWith enrolled u s) ⌝ }
-{
-    let o = s.on;
-    let ranged = is_origin(o);
-    let known = has64(enrolled, s.user);
-    let admitted = admits(u, s.hour, s.place, s.device);
-    (s.user < 64)
-        & ranged
-        & ((s.hour < 24) & (s.place < 16) & (s.device < 16))
-        & known
-        & u.there
-        & admitted
-}
-
-pub fn session_keeps(enrolled: u64, u: Limits, s: Session) -> bool
-    ensures { λ q. ⌜ q ≡ sessionKeepsWith enrolled u s ⌝ }
-{
-    if s.active {
-        keeps_all(enrolled, u, s)
-    } else {
-        is_blank(s)
-    }
-}
 
 pub fn sessions_keep(r: Register) -> bool
     ensures { λ q. ⌜ q ≡ allBelow 64 (λ n. sessionKeeps (r .enrolled) (r .roles) (r .count) (r .capabilities) n (sessionAt (r .sessions) n)) ⌝ }

@@ -10,8 +10,8 @@ use borrow.Author.Tests.{not-true, not-false}
 use Rattle.masks.specs.Tests.{allBelow}
 use Rattle.model.specs.Rules.{placeKeeps}
 use Rattle.model.specs.State.{capabilityAt, roleAuthority}
+use Rattle.entries.specs.Limits.{numberOf}
 use Rattle.rules.specs.Columns.{tally}
-use Rattle.rules.specs.Limits.{numberOf}
 use Rattle.rules.proofs.Laws.{all-more, all-fails}
 use Rattle.rules.proofs.Counts.{tally-le, tally-more, tally-at, tally-length}
 use Rattle.rules.proofs.Agreement.{place-agrees}

@@ -1,0 +1,2 @@
+-- Laws of the tests of one thing.
+pub mod Laws

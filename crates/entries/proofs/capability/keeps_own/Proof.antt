@@ -1,0 +1,21 @@
+-- `entries::capability::keeps_own` meets its contract.
+-- Assumes nothing.
+use native.Mathlib.Omega.{arith}
+use borrow.Author.Needs.{needs}
+use Rattle.masks.specs.Masks.{within}
+use Rattle.model.specs.Rules.{ownKeeps, ownTests}
+use Rattle.entries.proofs.Laws.{left-each}
+use Rattle.entries.proofs.capability.keeps_own.Statement.{statement}
+use Rattle.entries.proofs.capability.keeps_own.Tie as tie
+
+cast-result : tie.Need-cast-result
+cast-result c = omega (arith, c .struct-known4 .given)
+
+returns : tie.Need-returns
+unfolding ownKeeps within
+returns c =
+    let b = c .before .before .before .before .before .before in
+    rw (b .has64 .ensures) (left-each (ownTests (b .before .args .enrolled) (b .before .args .c)))
+
+pub keeps-own-spec : {M : Type 1} → statement M
+keeps-own-spec = tie.close (tie.spec (λ c κs. search needs) cast-result returns)

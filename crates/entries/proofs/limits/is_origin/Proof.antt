@@ -1,0 +1,14 @@
+-- `entries::limits::is_origin` meets its contract.
+-- Assumes nothing.
+use borrow.Author.Needs.{needs}
+use Rattle.entries.proofs.limits.is_origin.Statement.{statement}
+use Rattle.entries.proofs.limits.is_origin.Tie as tie
+
+returns : tie.Need-returns
+returns c = rw (c .before .o .given .1)
+
+returns-2 : tie.Need-returns-2
+returns-2 c = rw (c .before .o2 .given .1)
+
+pub is-origin-spec : {M : Type 1} → statement M
+is-origin-spec = tie.close (tie.spec (λ c. search needs) (λ c. search needs) (λ c. search needs) returns returns-2)

@@ -1,0 +1,13 @@
+-- `entries::roles::is_blank` meets its contract.
+-- Assumes nothing.
+use Rattle.model.specs.Rules.{roleBlank, roleBlankTests}
+use Rattle.entries.proofs.Laws.{left-each}
+use Rattle.entries.proofs.roles.is_blank.Statement.{statement}
+use Rattle.entries.proofs.roles.is_blank.Tie as tie
+
+returns : tie.Need-returns
+unfolding roleBlank
+returns c = left-each (roleBlankTests (c .before .before .before .before .before .before .args .x))
+
+pub is-blank-spec : {M : Type 1} → statement M
+is-blank-spec = tie.close (tie.spec returns)

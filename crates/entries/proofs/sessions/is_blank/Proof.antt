@@ -1,0 +1,16 @@
+-- `entries::sessions::is_blank` meets its contract.
+-- Assumes nothing.
+use borrow.Author.Needs.{needs}
+use Rattle.model.specs.Rules.{sessionBlank, sessionBlankTests}
+use Rattle.entries.proofs.Laws.{left-each}
+use Rattle.entries.proofs.sessions.is_blank.Statement.{statement}
+use Rattle.entries.proofs.sessions.is_blank.Tie as tie
+
+returns : tie.Need-returns
+unfolding sessionBlank
+returns c =
+    let b = c .before .before .before .before in
+    rw (b .is-role-zero .ensures) (left-each (sessionBlankTests (b .before .args .s)))
+
+pub is-blank-spec : {M : Type 1} → statement M
+is-blank-spec = tie.close (tie.spec (λ c κs. search needs) returns)

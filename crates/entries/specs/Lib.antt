@@ -1,0 +1,2 @@
+-- The rules of one thing, in the program's terms; `proofs/` of `rules` shows them equal to the rules of `model`.
+pub mod Limits

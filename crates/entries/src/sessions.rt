@@ -1,0 +1,46 @@
+// The rules of one session.
+ghost use mathlib.Core.Path.{_≡_};
+ghost use Rattle.masks.specs.Tests.{each};
+ghost use Rattle.model.specs.Rules.{sessionBlank};
+ghost use Rattle.entries.specs.Limits.{sessionWith, sessionKeepsWith};
+use crate::bits::has64;
+use crate::limits::Limits;
+use crate::limits::admits;
+use crate::limits::is_origin;
+use crate::limits::is_role_zero;
+use model::Session;
+
+// What is kept for a session not open is 0.
+fn is_blank(s: Session) -> bool
+    ensures { λ q. ⌜ q ≡ sessionBlank s ⌝ }
+{
+    let o = s.on;
+    let zero = is_role_zero(o);
+    (s.user == 0) & zero & (s.hour == 0) & (s.place == 0) & (s.device == 0)
+}
+
+// A session's context has its ranges and is admitted by its role or capability, which allows u.
+fn keeps_all(enrolled: u64, u: Limits, s: Session) -> bool
+    ensures { λ q. ⌜ q ≡ each (sessionWith enrolled u s) ⌝ }
+{
+    let o = s.on;
+    let ranged = is_origin(o);
+    let known = has64(enrolled, s.user);
+    let admitted = admits(u, s.hour, s.place, s.device);
+    (s.user < 64)
+        & ranged
+        & ((s.hour < 24) & (s.place < 16) & (s.device < 16))
+        & known
+        & u.there
+        & admitted
+}
+
+pub fn session_keeps(enrolled: u64, u: Limits, s: Session) -> bool
+    ensures { λ q. ⌜ q ≡ sessionKeepsWith enrolled u s ⌝ }
+{
+    if s.active {
+        keeps_all(enrolled, u, s)
+    } else {
+        is_blank(s)
+    }
+}
