@@ -20,7 +20,7 @@ use Rattle.model.proofs.Settling.{step-settled}
 use Rattle.model.proofs.Rules.{kept→, kept←}
 use Rattle.model.proofs.Running.{step-keeps}
 use Rattle.slots.proofs.TermLaws.{Column}
-use Rattle.calls.proofs.Tasks.{broken}
+use Rattle.dispatch.proofs.Tasks.{broken}
 use Rattle.batch.specs.declared.Item.{Item}
 use Rattle.batch.specs.declared.Told.{Told}
 use Rattle.batch.specs.Batch.{itemCall, callsOf, toldOutcome, outcomesOf, paddedAnswers}

@@ -1,11 +1,8 @@
 // The seventeen calls over the register by value: the whole reply is what the definitions say, refusal 15 included.
-pub mod apply;
-pub mod one;
-
 ghost use mathlib.Core.Path.{_≡_};
 ghost use Rattle.model.specs.Calls.{step, enrol as enrolCall, found as foundCall, grant as grantCall, withdraw as withdrawCall, appoint as appointCall, dismiss as dismissCall, clock as clockCall, create as createCall, allow as allowCall, lend as lendCall, hand as handCall, opening as openCall, check as checkCall, amend as amendCall, revoke as revokeCall, close as closeCall, same as sameCall};
 ghost use Rattle.model.specs.Requests.{effectOf, namedOrigin, changeOf};
-use crate::apply::apply;
+use apply::apply;
 use model::Change;
 use model::Context;
 use model::Named;

@@ -38,7 +38,7 @@ use Rattle.places.specs.Requests.{roleHeld, capabilityHeld}
 use Rattle.sessions.specs.Origins.{OnPlaced}
 use Rattle.sessions.specs.Sessions.{checkAnswer}
 use Rattle.sessions.proofs.Commits.{check-answered}
-use Rattle.calls.proofs.Tasks.{broken}
+use Rattle.dispatch.proofs.Tasks.{broken}
 use Rattle.player.specs.Play.{journalLength, journalBuffer}
 
 -- ---- one line

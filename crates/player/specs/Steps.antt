@@ -12,7 +12,7 @@ use Rattle.model.specs.Calls.{check}
 use Rattle.model.specs.Lines.{parse}
 use Rattle.model.specs.Requests.{refusalNumber, callOf}
 use Rattle.model.specs.Journal.{lineEffect}
-use Rattle.calls.specs.Decide.{isOne, treeCall}
+use Rattle.dispatch.specs.Decide.{isOne, treeCall}
 use Rattle.player.specs.declared.step.Step.{Step}
 use Rattle.player.specs.declared.step.Step.the-variants.{Refuse, Check, One, Tree}
 

@@ -9,9 +9,9 @@ use Rattle.model.specs.Requests.{effectOf}
 use Rattle.model.proofs.Rules.{kept→}
 use Rattle.slots.specs.Slots.{put, lifted, ruledOf}
 use Rattle.revocation.specs.Orders.{orderEffect}
-use Rattle.calls.proofs.Columns.{column-put}
-use Rattle.calls.proofs.Commits.{placed, commit}
-use Rattle.calls.proofs.Tasks.{called, fits}
+use Rattle.dispatch.proofs.Columns.{column-put}
+use Rattle.dispatch.proofs.Commits.{placed, commit}
+use Rattle.dispatch.proofs.Tasks.{called, fits}
 use Rattle.batch.specs.Batch.{itemCall}
 use Rattle.batch.proofs.Laws.{noItem, Playing, playing-start, playing-more, playing-done}
 use Rattle.batch.proofs.apply_formed.Statement.{statement}

@@ -9,7 +9,7 @@ use Rattle.model.specs.Rulings.{Effect}
 use Rattle.model.specs.Calls.{settled}
 use Rattle.model.specs.Requests.{outcomeOf, callOf}
 use Rattle.slots.specs.Slots.{ruledOf, lifted}
-use Rattle.calls.proofs.Commits.{placed, commit}
+use Rattle.dispatch.proofs.Commits.{placed, commit}
 use Rattle.fellunqa.proofs.Laws.{leaves-by, after-formed, by-value, by-refusal}
 use Rattle.fellunqa.proofs.answer_one.Statement.{statement}
 use Rattle.fellunqa.proofs.answer_one.Tie as tie

@@ -9,7 +9,7 @@ use lib.Dec.{T}
 use Rattle.model.specs.Rules.{wellFormed}
 use Rattle.model.specs.Entry.{entry}
 use Rattle.model.specs.Requests.{callOf}
-use Rattle.calls.proofs.Tasks.{called, fits}
+use Rattle.dispatch.proofs.Tasks.{called, fits}
 use Rattle.fellunqa.specs.Perform.{performed}
 use Rattle.fellunqa.proofs.Laws.{leaves-by, no-image, no-line, loaded-formed, by-call}
 use Rattle.fellunqa.proofs.fellunqa_apply.Statement.{statement}

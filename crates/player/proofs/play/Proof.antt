@@ -22,8 +22,8 @@ use Rattle.model.proofs.Rules.{kept→}
 use Rattle.slots.specs.Slots.{put, lifted, ruledOf}
 use Rattle.slots.proofs.TermLaws.{Column}
 use Rattle.revocation.specs.Orders.{orderEffect}
-use Rattle.calls.proofs.Columns.{column-put}
-use Rattle.calls.proofs.Commits.{placed, commit}
+use Rattle.dispatch.proofs.Columns.{column-put}
+use Rattle.dispatch.proofs.Commits.{placed, commit}
 use Rattle.text.specs.Parts.{before}
 use Rattle.text.proofs.TranscriptLaws.{transcript-last, transcript-done}
 use Rattle.answers.specs.Writing.{written, filled}

@@ -4,7 +4,7 @@ use mathlib.Core.Option.{some}
 use borrow.Author.Needs.{needs}
 use borrow.Author.Tests.{not-true, not-false}
 use Rattle.model.specs.Requests.{callOf}
-use Rattle.calls.proofs.Tasks.{called, fits}
+use Rattle.dispatch.proofs.Tasks.{called, fits}
 use Rattle.player.proofs.Laws.{line-none, line-broken, line-says}
 use Rattle.player.proofs.step.step_of.Statement.{statement}
 use Rattle.player.proofs.step.step_of.Tie as tie

@@ -1,0 +1,2 @@
+-- Where the elements that a request names were found.
+pub mod View

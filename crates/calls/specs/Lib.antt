@@ -1,3 +1,0 @@
--- The dispatch over requests.
-pub mod Decide
-pub mod View

@@ -1,0 +1,2 @@
+-- The dispatch over requests.
+pub mod Decide
