@@ -17,7 +17,7 @@ use lib.Seq.{drop-at, drop-cons, drop-drop, length-take-le}
 use Rattle.buffers.proofs.Parts.{placed}
 use Rattle.masks.specs.Bytes.{front, onto, split}
 use Rattle.masks.proofs.Truth.{T→true, T→false, true→T, le→nltb}
-use Rattle.image.specs.declared.loader.ReadImage.{ReadImage}
+use Rattle.decoding.specs.declared.ReadImage.{ReadImage}
 use Rattle.model.specs.declared.Register.{Register}
 use Rattle.model.specs.declared.Request.{Request}
 use Rattle.model.specs.declared.Refusal.{Refusal}

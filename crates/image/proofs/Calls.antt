@@ -16,7 +16,7 @@ use Rattle.model.specs.Rulings.{Outcome, value, refused, settle}
 use Rattle.model.specs.Image.{readCapabilities, afterChosen, encode, decode, loads, saveEffect, savedBuffer}
 use Rattle.rules.specs.Columns.{BlankFrom}
 use Rattle.fields.specs.Codes.{Bytes}
-use Rattle.image.specs.Exact.{exactImage}
+use Rattle.decoding.specs.Exact.{exactImage}
 use Rattle.image.proofs.Exact.{length-read, loads-exact}
 
 -- ---- save

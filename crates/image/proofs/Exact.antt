@@ -21,13 +21,13 @@ use Rattle.model.specs.Image.{writeChosen, readChosen, chosenLength, writeCapab
 use Rattle.model.proofs.Rules.{formed→}
 use Rattle.fields.specs.Codes.{Bytes}
 use Rattle.records.specs.Exact.{exactCapabilities, capabilitiesLength}
-use Rattle.image.specs.Exact.{exactSessions, exactImage}
+use Rattle.decoding.specs.Exact.{exactSessions, exactImage}
 use Rattle.fields.proofs.Numbers.{length-bytes, length-map, same-refl}
 use Rattle.fields.proofs.Reading.{bytes-drop, mask-small}
 use Rattle.fields.proofs.ExactFields.{first-join, first-all, number-again, map-again}
 use Rattle.records.proofs.ExactRecords.{capabilities-at, capabilities-again}
 use Rattle.records.proofs.ExactWriting.{capabilities-exact, capabilities-length}
-use Rattle.image.proofs.Whole.{image-size}
+use Rattle.image.proofs.Length.{image-size}
 use Rattle.image.proofs.RoundTrip.{sessionsPart, created, capabilitiesPart, rolesPart, usersPart, users, roles, sessions, amount, ranges, count-back, few, count-drop, created-after}
 use Rattle.image.proofs.ExactSections.{domains-again, roles-again, sessions-again, founded-again, active-again, sessions-whole}
 

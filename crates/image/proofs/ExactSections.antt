@@ -17,14 +17,14 @@ use Rattle.model.specs.Fields.{bit, roleOf, writeRole, readRole, sessionOf, wri
 use Rattle.model.specs.Image.{maskWhere, chosen, writeChosen, itemOr, readChosen, chosenLength, foundedRoles, activeSessions}
 use Rattle.fields.specs.Codes.{Bytes}
 use Rattle.records.specs.Exact.{exactSession}
-use Rattle.image.specs.Exact.{exactSessions}
+use Rattle.decoding.specs.Exact.{exactSessions}
 use Rattle.fields.proofs.Reading.{bytes-drop}
 use Rattle.fields.proofs.ExactFields.{first-join, number-again}
 use Rattle.records.proofs.Records.{session-size}
 use Rattle.records.proofs.ExactRecords.{role-again, session-again}
 use Rattle.records.proofs.ExactWriting.{session-exact}
+use Rattle.decoding.proofs.Decoding.{readDomain}
 use Rattle.image.proofs.Sections.{item-length}
-use Rattle.image.proofs.RoundTrip.{readDomain}
 
 -- ---- a section read and written again
 

@@ -1,12 +1,7 @@
--- Laws of sections and of whole images; the round trip.
+-- Laws of sections and of whole images, written and read again; the round trip.
 pub mod Sections
-pub mod Putting
-pub mod Marking
-pub mod Reading
-pub mod Whole
+pub mod Length
 pub mod RoundTrip
 pub mod ExactSections
 pub mod Exact
-pub mod Decoding
-pub mod Rest
 pub mod Calls

@@ -24,12 +24,11 @@ use Rattle.model.proofs.Rules.{formed→}
 use Rattle.image.specs.Laws.{ImageOf, ImageLaws}
 use Rattle.fields.proofs.Numbers.{length-bytes, length-map, number-back, map-item, same-refl}
 use Rattle.records.proofs.Records.{domain-good, role-good, role-size, session-good, session-size, AllInRange, in-range, capabilities-back, capabilities-after, capabilities-small}
-use Rattle.image.proofs.Sections.{Kept, kept, Section, section-back, where-small, has-where, chosen-small}
+use Rattle.encoding.proofs.Turns.{where-small}
+use Rattle.decoding.proofs.Decoding.{readDomain, registerOf, same-register}
+use Rattle.image.proofs.Sections.{Kept, kept, Section, section-back, has-where, chosen-small}
 
 -- ---- the sections of an image, each with all that follows it
-
-abbrev pub readDomain : List ℕ → ℕ
-readDomain t = numberOf (firstBytes 1 t)
 
 module _ (r : Register) where
   abbrev pub sessionsPart : List ℕ
@@ -142,10 +141,6 @@ module _ (r : Register) (h : WellFormed r) where
 
 -- ---- a register of its parts
 
-abbrev pub registerOf : ℕ → ℕ → List ℕ → List Role → ℕ → List Capability → List Session → Register
-registerOf t m ds rs n cs ss =
-    record { clock = t; enrolled = m; domains = ds; roles = rs; count = n; capabilities = cs; sessions = ss }
-
 -- of the image, and of its parts from the users, from the roles, from the count and from the sessions on; the count, and
 -- how many capabilities are read
 abbrev pub fromParts : List ℕ → List ℕ → List ℕ → List ℕ → ℕ → ℕ → List ℕ → Register
@@ -175,10 +170,6 @@ decode-parts s a b d e n k ea eb ed en em ee =
     ∙ ap (λ (u : ℕ). fromCount s a b d u (min 256 u)) en
     ∙ ap (λ (u : ℕ). fromCount s a b d n u) em
     ∙ ap (λ (u : List ℕ). fromParts s a b d n k u) ee
-
-pub same-register : {t t' m m' n : ℕ} {ds ds' : List ℕ} {rs rs' : List Role} {cs cs' : List Capability} {ss ss' : List Session}
-    → t ≡ t' → m ≡ m' → ds ≡ ds' → rs ≡ rs' → cs ≡ cs' → ss ≡ ss' → registerOf t m ds rs n cs ss ≡ registerOf t' m' ds' rs' n cs' ss'
-same-register e0 e1 e2 e3 e4 e5 = cc
 
 -- ---- the round trip
 

@@ -3,19 +3,19 @@
 use mathlib.Core.Path.{_≡_, refl, sym, ap, _∙_}
 use mathlib.Core.Bool.{Bool, true, false, not}
 use mathlib.Core.List.{List, [], _∷_, _++_, append-assoc}
-use Prim.Native.Nat.{ℕ, zero, suc, _+_, _-_, _*_, _/_, _%_, _^_, _≤_, _<_}
-use native.Mathlib.Nat.{zero-mul, one-mul, div-div-eq-div-mul, pow-succ', pow-suc, div-one, not-suc-le-zero, le-of-suc-le-suc}
-use native.Mathlib.Numerals.{add-one}
+use Prim.Native.Nat.{ℕ, zero, suc, _+_, _*_, _/_, _%_, _^_, _≤_, _<_}
+use native.Mathlib.Nat.{zero-mul, one-mul, div-div-eq-div-mul, pow-succ', div-one, not-suc-le-zero, le-of-suc-le-suc}
 use native.Mathlib.Omega.{arith}
 use lib.Dec.{T, eqb}
-use lib.ListN.{length, drop, getD, length-append, length-drop, drop-of-length-le}
-use lib.Seq.{drop-at, drop-cons, drop-drop}
+use lib.ListN.{length, drop, getD, length-append}
+use lib.Seq.{drop-at, drop-drop}
 use Rattle.masks.specs.Masks.{has}
 use Rattle.masks.specs.Bytes.{mapBytes}
 use Rattle.model.specs.Fields.{bit}
 use Rattle.model.specs.Image.{maskWhere, chosen, writeChosen, itemOr, readChosen, chosenLength, mapAt, afterChosen}
 use Rattle.fields.proofs.Numbers.{length-map, map-back}
 use Rattle.records.proofs.Records.{Good}
+use Rattle.encoding.proofs.Turns.{bit-le}
 
 -- ---- the bits of a mask from the lowest on
 
@@ -29,19 +29,11 @@ has-first m = ap (λ (x : ℕ). eqb (x % 2) 1) (div-one m)
 
 -- ---- the mask of the items that pass
 
-pub bit-le : (b : Bool) → bit b ≤ 1
-bit-le true = omega arith
-bit-le false = omega arith
-
 bit-here : (b : Bool) (m : ℕ) → (bit b + 2 * m) % 2 ≡ bit b
 bit-here b m = omega (arith, bit-le b)
 
 bits-after : (b : Bool) (m : ℕ) → (bit b + 2 * m) / 2 ≡ m
 bits-after b m = omega (arith, bit-le b)
-
-pub where-small : {A : Type 0} (p : A → Bool) (l : List A) → maskWhere p l < 2 ^ length l
-where-small p [] = omega arith
-where-small p (a ∷ l) = rw pow-suc (omega (arith, where-small p l, bit-le (p a)))
 
 bit-test : (b : Bool) → eqb (bit b) 1 ≡ b
 bit-test true = refl
@@ -134,28 +126,3 @@ module _ {A : Type 0} (blank : A) (write : A → List ℕ) (read : List ℕ → 
           items = rw (em, ed, ← ek) (chosen-back m l rest h);
           after = sym (drop-drop (chosenLength w (mapAt v s) k) v s) ∙ rw (ed) (drop-at (writeChosen write m l) rest (chosenLength w (mapAt v s) k) (sym el));
         }
-
--- ---- turns of the loops
-
-module _ {A : Type 0} (write : A → List ℕ) where
-  pub chosen-step : (m : ℕ) (l : List A) (i : ℕ) (d : A) → i < length l
-      → writeChosen write m (drop i l) ≡ chosen (m % 2) (write (getD l i d)) ++ writeChosen write (m / 2) (drop (i + 1) l)
-  chosen-step m l i d h = rw (add-one, drop-cons l i d)
-
-  pub chosen-done : (m : ℕ) (l : List A) (i : ℕ) → length l ≤ i → writeChosen write m (drop i l) ≡ []
-  chosen-done m l i h = ap (writeChosen write m) (drop-of-length-le l h)
-
-pub chosen-set : (b : ℕ) (s : List ℕ) → (b ≡ 0 → ⊥) → chosen b s ≡ s
-chosen-set zero s h = absurd (h refl)
-chosen-set (suc b) s h = refl
-
-module _ {A : Type 0} (p : A → Bool) (l : List A) (i : ℕ) where
-  pub where-step : (d : A) → 0 < i → i ≤ length l → maskWhere p (drop (i - 1) l) ≡ maskWhere p (drop i l) * 2 + bit (p (getD l (i - 1) d))
-  where-step d h k =
-      let e : i - 1 < length l = omega arith in
-      let n : suc (i - 1) ≡ i = omega arith in
-      let split : maskWhere p (drop (i - 1) l) ≡ bit (p (getD l (i - 1) d)) + 2 * maskWhere p (drop (suc (i - 1)) l) = ap (maskWhere p) (drop-cons l (i - 1) d e) in
-      omega (arith, split, ap (λ (j : ℕ). maskWhere p (drop j l)) n)
-
-  pub where-below : maskWhere p (drop i l) < 2 ^ (length l - i)
-  where-below = rw length-drop at (where-small p (drop i l))

@@ -1,4 +1,2 @@
--- What holds of images, what their sections are, and which bytes are exact; the definitions of images are those of `model`.
+-- What holds of images; the definitions of images are those of `model`.
 pub mod Laws
-pub mod Sections
-pub mod Exact

@@ -7,19 +7,15 @@ ghost use Rattle.model.specs.State.{fresh};
 ghost use Rattle.model.specs.Rules.{wellFormed};
 ghost use Rattle.model.specs.Requests.{outcomeOf};
 ghost use Rattle.model.specs.Image.{decode, loads, saveEffect, savedBuffer};
-use crate::loader::ReadImage;
-use crate::loader::read_image;
-use crate::writer::put_image;
 use buffers::put_bytes;
+use decoding::ReadImage;
+use decoding::read_image;
+use encoding::put_image;
 use model::Answer;
 use model::Refusal;
 use model::Register;
 use rules::well_formed;
 use rules::well_formed_read;
-
-pub mod loader;
-mod section;
-mod writer;
 
 // Saves a register that keeps the rules, without testing them. A buffer that may be too short gets the image by way of another.
 pub fn save_trusted(r: Register, buffer: &mut [u8]) -> Answer

@@ -1,0 +1,4 @@
+-- Laws of an image read section by section.
+pub mod Reading
+pub mod Decoding
+pub mod Rest
