@@ -30,7 +30,7 @@ use Rattle.model.proofs.Settling.{step-settled}
 use Rattle.model.proofs.Rules.{kept→, kept←}
 use Rattle.model.proofs.Running.{step-keeps}
 use Rattle.text.specs.Parts.{before}
-use Rattle.text.proofs.TranscriptLaws.{transcript-line}
+use Rattle.player.proofs.Transcripts.{transcript-line}
 use Rattle.answers.specs.Writing.{written, filled}
 use Rattle.answers.proofs.WriteLaws.{written-room, filled-room}
 use Rattle.slots.proofs.TermLaws.{Column}

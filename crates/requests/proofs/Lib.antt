@@ -1,2 +1,3 @@
--- Laws of the request words.
+-- Laws of the request words and of their arguments.
 pub mod WordLaws
+pub mod RequestLaws

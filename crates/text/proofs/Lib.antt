@@ -2,4 +2,3 @@
 pub mod PartLaws
 pub mod NumberLaws
 pub mod ArgumentLaws
-pub mod TranscriptLaws

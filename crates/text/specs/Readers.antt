@@ -8,8 +8,6 @@ use Rattle.model.specs.Lines.{andThen, numeral, changeIn, numbers, nth, originI
 use Rattle.model.specs.Requests.{namedOrigin, changeOf}
 use Rattle.model.specs.Revocation.{Change}
 use Rattle.model.specs.declared.Origin.{Origin}
-use Rattle.model.specs.declared.Context.{Context}
-use Rattle.model.specs.declared.Plan.{Plan}
 use Rattle.text.specs.Parts.{firstWord, after}
 use Rattle.text.specs.declared.numbers.Decimal.{Decimal}
 use Rattle.text.specs.declared.numbers.Decimal.the-variants.{Value, NoNumber}
@@ -110,21 +108,3 @@ abbrev pub lastChange : List (List ℕ) → Option Change
 lastChange [] = none
 lastChange (w ∷ []) = changeIn w
 lastChange (w ∷ more ∷ ws) = none
-
--- ---- the context and the plan among the numbers of create and open
-
-abbrev pub contextIn : List ℕ → Context
-contextIn v = record { hour = nth v 1; place = nth v 2; device = nth v 3 }
-
-abbrev pub planIn : List ℕ → Plan
-planIn v =
-    record {
-      first = nth v 4;
-      last = nth v 5;
-      uses = nth v 6;
-      creations = nth v 7;
-      hops = nth v 8;
-      hours = nth v 9;
-      places = nth v 10;
-      devices = nth v 11;
-    }

@@ -25,7 +25,7 @@ use Rattle.revocation.specs.Orders.{orderEffect}
 use Rattle.dispatch.proofs.Columns.{column-put}
 use Rattle.dispatch.proofs.Commits.{placed, commit}
 use Rattle.text.specs.Parts.{before}
-use Rattle.text.proofs.TranscriptLaws.{transcript-last, transcript-done}
+use Rattle.player.proofs.Transcripts.{transcript-last, transcript-done}
 use Rattle.answers.specs.Writing.{written, filled}
 use Rattle.player.specs.declared.step.Step.the-variants.{Refuse}
 use Rattle.player.specs.Steps.{Fits}

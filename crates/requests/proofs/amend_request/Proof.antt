@@ -12,7 +12,7 @@ use Rattle.text.specs.Parts.{after}
 use Rattle.text.specs.Readers.{twoIn, byOf, lastChange}
 use Rattle.text.specs.declared.numbers.TwoNumbers.the-variants.{Both}
 use Rattle.text.proofs.NumberLaws.{two-first, two-fits}
-use Rattle.text.proofs.ArgumentLaws.{amend-by}
+use Rattle.requests.proofs.RequestLaws.{amend-by}
 use borrow.Author.Needs.{needs}
 use Rattle.requests.proofs.amend_request.Statement.{statement}
 use Rattle.requests.proofs.amend_request.Tie as tie

@@ -12,7 +12,7 @@ use Rattle.text.specs.Parts.{after}
 use Rattle.text.specs.Readers.{numberIn, targetOf, targetIn}
 use Rattle.text.specs.declared.numbers.Number.the-variants.{Read}
 use Rattle.text.proofs.NumberLaws.{number-first, number-fits}
-use Rattle.text.proofs.ArgumentLaws.{created, created-take, create-by}
+use Rattle.requests.proofs.RequestLaws.{created, created-take, create-by}
 use borrow.Author.Needs.{needs}
 use Rattle.requests.proofs.create_request.Statement.{statement}
 use Rattle.requests.proofs.create_request.Tie as tie

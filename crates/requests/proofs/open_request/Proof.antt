@@ -12,7 +12,7 @@ use Rattle.text.specs.Parts.{after}
 use Rattle.text.specs.Readers.{twoIn, targetOf, targetIn}
 use Rattle.text.specs.declared.numbers.TwoNumbers.the-variants.{Both}
 use Rattle.text.proofs.NumberLaws.{two-first, two-fits}
-use Rattle.text.proofs.ArgumentLaws.{opened, opened-take, open-by}
+use Rattle.requests.proofs.RequestLaws.{opened, opened-take, open-by}
 use borrow.Author.Needs.{needs}
 use Rattle.requests.proofs.open_request.Statement.{statement}
 use Rattle.requests.proofs.open_request.Tie as tie
