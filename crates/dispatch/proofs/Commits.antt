@@ -17,14 +17,14 @@ use Rattle.model.specs.Requests.{callOf}
 use Rattle.slots.specs.declared.Slots.{Slots}
 use Rattle.slots.specs.declared.Decision.{Decision}
 use Rattle.slots.specs.Slots.{Places, look, ruledOf, lifted}
+use Rattle.slots.specs.Terms.{OriginPlaced}
 use Rattle.slots.proofs.TermLaws.{Column}
 use Rattle.places.specs.declared.Names.{Names}
 use Rattle.places.specs.Requests.{namesOf, placesIn, capabilityPlace, rolePlace, parentPlace, roleHeld, capabilityHeld, roleIn, capabilityIn}
 use Rattle.administration.proofs.Commits.{enrol-commit, found-commit, grant-commit, appoint-commit, dismiss-commit, clock-commit}
-use Rattle.delegation.specs.Delegation.{OriginPlaced}
-use Rattle.delegation.specs.Creation.{NamedPlaced}
-use Rattle.delegation.proofs.Commits.{hand-commit, allow-commit, lend-commit}
-use Rattle.delegation.proofs.CreateCommit.{create-commit}
+use Rattle.creation.specs.Creation.{NamedPlaced}
+use Rattle.creation.proofs.CreateCommit.{create-commit}
+use Rattle.giving.proofs.Commits.{hand-commit, allow-commit, lend-commit}
 use Rattle.sessions.specs.Origins.{OnPlaced, NamedPlaced as SessionPlaced}
 use Rattle.sessions.proofs.Commits.{close-commit, check-commit, open-commit}
 use Rattle.dispatch.specs.Decide.{isOne, decideOf}

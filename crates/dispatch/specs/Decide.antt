@@ -10,8 +10,8 @@ use Rattle.places.specs.declared.Task.the-variants.{One, Tree}
 use Rattle.places.specs.declared.TreeCall.{TreeCall}
 use Rattle.places.specs.declared.TreeCall.the-variants.{Withdraw as withdrawing, Amend as amending, Revoke as revoking, Same as comparing}
 use Rattle.administration.specs.Administration.{enrolDecision, foundDecision, grantDecision, appointDecision, dismissDecision, clockDecision}
-use Rattle.delegation.specs.Creation.{createDecision}
-use Rattle.delegation.specs.Delegation.{allowDecision, lendDecision, handDecision}
+use Rattle.creation.specs.Creation.{createDecision}
+use Rattle.giving.specs.Giving.{allowDecision, lendDecision, handDecision}
 use Rattle.sessions.specs.Sessions.{openDecision, checkDecision, closeDecision}
 use Rattle.model.specs.declared.Request.{Request}
 use Rattle.model.specs.declared.Request.the-variants.{Enrol, Found, Grant, Withdraw, Appoint, Dismiss, Clock, Create, Allow, Lend, Hand, Open, Check, Amend, Revoke, Close, Same}

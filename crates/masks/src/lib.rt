@@ -3,13 +3,20 @@ ghost use mathlib.Core.Path.{_≡_};
 ghost use mathlib.Core.Bool.{cond};
 ghost use Prim.Native.Nat.{_<_, _^_};
 ghost use lib.ListN.{getD};
-ghost use Rattle.masks.specs.Masks.{has, including, excluding, joined};
+ghost use Rattle.masks.specs.Masks.{has, within, including, excluding, joined};
 
 // Item k of a mask, for any number k.
 pub fn member(mask: u64, k: u32) -> bool
     ensures { λ q. ⌜ q ≡ has mask k ⌝ }
 {
     if k < 64 { (mask >> k) % 2 == 1 } else { false }
+}
+
+// Every item of the mask a is one of b.
+pub fn contained(a: u32, b: u32) -> bool
+    ensures { λ q. ⌜ q ≡ within a b ⌝ }
+{
+    a & b == a
 }
 
 // The mask of item k alone.

@@ -7,11 +7,16 @@ use lib.Bits.{bitOr}
 use lib.ListN.{getD}
 use Rattle.masks.specs.Masks.{joined}
 use Rattle.masks.proofs.JoinLaws.{joined-same}
+use Rattle.model.specs.declared.Origin.{Origin}
 use Rattle.model.specs.declared.Origin.the-variants.{Role as ofRole, Capability as ofCapability}
 use Rattle.model.specs.declared.Role.{Role}
 use Rattle.model.specs.declared.Capability.{Capability}
+use Rattle.model.specs.declared.Register.{Register}
 use Rattle.model.specs.State.{terms, termsWith, authority, lentAuthority, roleAuthority, roleAt, capabilityAt}
-use Rattle.slots.specs.Terms.{slotTerms}
+use Rattle.model.specs.Invariant.{OriginInRange}
+use Rattle.model.specs.Rulings.{termsOf}
+use Rattle.slots.specs.Slots.{Places, look}
+use Rattle.slots.specs.Terms.{slotTerms, OriginPlaced, originTerms}
 
 -- ---- the column of the roles' permissions
 
@@ -34,3 +39,10 @@ pub capability-terms : (roles : List Role) (cs : List Capability) (n : ℕ) (x :
 unfolding slotTerms terms authority
 capability-terms roles cs n x lent e =
     ap (λ (y : ℕ). termsWith (bitOr ((capabilityAt cs n) .permissions) y) ((capabilityAt cs n) .lent) (capabilityAt cs n)) e
+
+-- what the origin allows, read from its slot
+pub placed-terms : (r : Register) (p : Places) (permissions : List ℕ) (o : Origin) → Column permissions (r .roles) → OriginInRange o → OriginPlaced p o
+    → originTerms (look r p) permissions o ≡ termsOf r o
+placed-terms r p permissions (ofRole k) column l e = rw (e, mod-eq-of-lt l) (role-terms (r .roles) (r .capabilities) k _ _ l)
+placed-terms r p permissions (ofCapability n) column l e =
+    rw (e, mod-eq-of-lt l) (capability-terms (r .roles) (r .capabilities) n _ _ (lent-column permissions (r .roles) _ column))

@@ -1,7 +1,11 @@
 -- What an origin allows, from the elements read.
+use mathlib.Core.Path.{_≡_}
 use mathlib.Core.Bool.{false}
+use mathlib.Core.List.{List}
 use Prim.Native.Nat.{ℕ, _%_, _^_}
 use lib.Bits.{bitOr}
+use lib.ListN.{getD}
+use Rattle.masks.specs.Masks.{joined}
 use Rattle.model.specs.declared.Origin.{Origin}
 use Rattle.model.specs.declared.Origin.the-variants.{Role as ofRole, Capability as ofCapability}
 use Rattle.model.specs.declared.Named.{Named}
@@ -9,7 +13,9 @@ use Rattle.model.specs.declared.Named.the-variants.{Role as nameRole, Capabilit
 use Rattle.model.specs.declared.Role.{Role}
 use Rattle.model.specs.declared.Capability.{Capability}
 use Rattle.model.specs.State.{Terms, termsWith}
+use Rattle.slots.specs.declared.Slots.{Slots}
 use Rattle.slots.specs.declared.terms.Allowance.{Allowance}
+use Rattle.slots.specs.Slots.{Places}
 
 -- the terms that the program's record stands for
 abbrev pub termsIn : Allowance → Terms
@@ -45,6 +51,19 @@ slotTerms (ofRole k) x c lent =
       revoked = false;
     }
 slotTerms (ofCapability n) x c lent = termsWith (bitOr (c .permissions) lent) (c .lent) c
+
+-- the role or the capability that an origin is stands in its slot
+abbrev pub OriginPlaced : Places → Origin → Type 0
+OriginPlaced p (ofRole k) = p .role ≡ k % 32
+OriginPlaced p (ofCapability n) = p .parent ≡ n % 256
+
+-- the permissions of the roles of a mask, joined, from the column of the roles' permissions
+abbrev pub columnLent : List ℕ → ℕ → ℕ
+columnLent permissions m = joined (λ k. getD permissions k 0) m 32
+
+-- what the origin allows
+abbrev pub originTerms : Slots → List ℕ → Origin → Terms
+originTerms v permissions o = slotTerms o (v .role) (v .parent) (columnLent permissions (v .parent .lent))
 
 -- the origin that a request names, its number brought into the range
 abbrev pub namedIn : Named → Origin

@@ -1,7 +1,9 @@
 // What an origin allows, a role or a capability alike.
 ghost use mathlib.Core.Path.{_≡_};
-ghost use Rattle.slots.specs.Terms.{termsIn, slotTerms, namedIn};
+ghost use Rattle.slots.specs.Terms.{termsIn, slotTerms, originTerms, namedIn};
+use crate::Slots;
 use masks::bit32;
+use masks::join;
 use model::Capability;
 use model::Named;
 use model::Origin;
@@ -53,6 +55,15 @@ pub fn allowance_of(o: Origin, x: Role, c: Capability, lent: u32) -> Allowance
             revoked: c.revoked,
         },
     }
+}
+
+// What the origin o allows, read from the slot `role` or `parent`.
+pub fn origin_allows(v: Slots, permissions: &[u32; 32], o: Origin) -> Allowance
+    ensures { λ q. ⌜ termsIn q ≡ originTerms v (now (permissions .entry)) o ⌝ }
+{
+    let c = v.parent;
+    let x = v.role;
+    allowance_of(o, x, c, join(permissions, c.lent))
 }
 
 // The origin that a request names, its number brought into the range.

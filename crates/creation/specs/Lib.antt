@@ -1,0 +1,2 @@
+-- The call that creates, over the elements that it names.
+pub mod Creation

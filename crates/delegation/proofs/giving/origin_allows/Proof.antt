@@ -1,9 +1,0 @@
-use borrow.Author.Needs.{needs}
-use Rattle.delegation.proofs.giving.origin_allows.Statement.{statement}
-use Rattle.delegation.proofs.giving.origin_allows.Tie as tie
-
-returns : tie.Need-returns
-returns c = rw (← c .before .join .ensures) (c .allowance-of .ensures)
-
-pub origin-allows-spec : {M : Type 1} → statement M
-origin-allows-spec = tie.close (tie.spec (λ c κs. search needs) (λ c κs. search needs) returns)

@@ -1,0 +1,17 @@
+use borrow.Author.Needs.{needs}
+use lib.Bits.{bitOr}
+use Rattle.model.specs.Setters.{withPermissions}
+use Rattle.giving.specs.Giving.{allowDecision}
+use Rattle.giving.proofs.Laws.{give-agrees}
+use Rattle.giving.proofs.decide_allow.Statement.{statement}
+use Rattle.giving.proofs.decide_allow.Tie as tie
+
+returns : tie.Need-returns
+unfolding allowDecision
+returns c =
+    let x = c .before .before .before .before .args in
+    let b = x .v .capability in
+    give-agrees (x .v) (x .permissions .now) (λ t. t .grants) (b .permissions) (x .user) (x .number) (x .mask) (withPermissions b (bitOr (b .permissions) (x .mask))) (c .before .before .origin-allows .ensures) (c .give .ensures)
+
+pub decide-allow-spec : {M : Type 1} → statement M
+decide-allow-spec = tie.close (tie.spec (λ c κs. search needs) (λ c κs. search needs) returns)

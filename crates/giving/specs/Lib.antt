@@ -1,0 +1,2 @@
+-- The calls that give, over the elements that they name.
+pub mod Giving
