@@ -23,7 +23,7 @@ use Rattle.places.specs.declared.Names.{Names}
 use Rattle.places.specs.Requests.{namesOf, placesIn, capabilityPlace, rolePlace, parentPlace, roleHeld, capabilityHeld, roleIn, capabilityIn}
 use Rattle.administration.proofs.Commits.{enrol-commit, found-commit, grant-commit, appoint-commit, dismiss-commit, clock-commit}
 use Rattle.creation.specs.Creation.{NamedPlaced}
-use Rattle.creation.proofs.CreateCommit.{create-commit}
+use Rattle.creation.proofs.Commits.{create-commit}
 use Rattle.giving.proofs.Commits.{hand-commit, allow-commit, lend-commit}
 use Rattle.sessions.specs.Origins.{OnPlaced, NamedPlaced as SessionPlaced}
 use Rattle.sessions.proofs.Commits.{close-commit, check-commit, open-commit}
