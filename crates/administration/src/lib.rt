@@ -2,10 +2,13 @@
 ghost use mathlib.Core.Path.{_≡_};
 ghost use mathlib.Core.List.{List};
 ghost use lib.Dec.{T};
-ghost use Rattle.model.specs.Rulings.{Guard};
+ghost use Rattle.model.specs.declared.Role.{Role as RoleHeld};
+ghost use Rattle.model.specs.Rulings.{Guard, settle};
+ghost use Rattle.model.specs.Administration.{enrolling, founding, granting, appointing, dismissing, ticking};
+ghost use Rattle.model.proofs.Settling.{Clear};
 ghost use Rattle.slots.specs.Checks.{checked, firstNumber, numbered};
-ghost use Rattle.slots.specs.Slots.{ruledOf, settleSlots, withRoleSlot};
-ghost use Rattle.administration.specs.Administration.{enrolGuards, enrolDecision, foundGuards, foundDecision, grantGuards, grantDecision, appointGuards, appointDecision, dismissGuards, dismissDecision, clockGuards, clockDecision};
+ghost use Rattle.slots.specs.Slots.{ruledOf, withRoleSlot};
+ghost use Rattle.administration.specs.Administration.{enrolDecision, foundDecision, grantDecision, appointDecision, dismissDecision, clockDecision};
 use masks::excluding64;
 use masks::including32;
 use masks::including64;
@@ -18,9 +21,10 @@ use slots::Slots;
 use slots::checks::Check;
 use slots::checks::first;
 
-// The role y in its slot where the check passes, with the value 0: whatever guards the check asked.
+// The role y in its slot where the check passes, with the value 0: whatever guards the check asked. It need be the role z after the
+// call only where none of them applies.
 fn put_role(v: Slots, k: Check, y: Role) -> Decision
-    ensures { λ q. ⌜ ((gs : List Guard) → T (numbered gs) → checked k ≡ firstNumber gs → ruledOf q ≡ settleSlots v gs 0 (withRoleSlot v y)) ⌝ }
+    ensures { λ q. ⌜ ((gs : List Guard) (z : RoleHeld) → T (numbered gs) → checked k ≡ firstNumber gs → (Clear gs → y ≡ z) → ruledOf q ≡ settle v gs 0 (withRoleSlot v z)) ⌝ }
 {
     match k {
         Check::Refuse(why) => Decision {
@@ -39,7 +43,7 @@ fn put_role(v: Slots, k: Check, y: Role) -> Decision
 }
 
 pub fn enrol_check(enrolled: u64, user: u32, domain: u32) -> Check
-    ensures { λ q. ⌜ checked q ≡ firstNumber (enrolGuards enrolled user domain) ⌝ }
+    ensures { λ q. ⌜ checked q ≡ firstNumber ((enrolling enrolled user domain) .guards) ⌝ }
 {
     let already = member(enrolled, user);
     let k = first(already, Refusal::Unchanged, Check::Pass);
@@ -67,17 +71,10 @@ pub fn decide_enrol(v: Slots, user: u32, domain: u32) -> Decision
     }
 }
 
-pub fn found_check(
-    founded: bool,
-    role: u32,
-    domain: u32,
-    hours: u32,
-    places: u32,
-    devices: u32,
-) -> Check
-    ensures { λ q. ⌜ checked q ≡ firstNumber (foundGuards founded role domain hours places devices) ⌝ }
+pub fn found_check(x: Role, role: u32, domain: u32, hours: u32, places: u32, devices: u32) -> Check
+    ensures { λ q. ⌜ checked q ≡ firstNumber ((founding x role domain hours places devices) .guards) ⌝ }
 {
-    let k = first(founded, Refusal::Unchanged, Check::Pass);
+    let k = first(x.founded, Refusal::Unchanged, Check::Pass);
     first(
         !((role < 32) & (domain < 8) & (hours < 16777216) & (places < 65536) & (devices < 65536)),
         Refusal::Range,
@@ -96,7 +93,7 @@ pub fn decide_found(
     ensures { λ q. ⌜ ruledOf q ≡ foundDecision v role domain hours places devices ⌝ }
 {
     let x = v.role;
-    let k = found_check(x.founded, role, domain, hours, places, devices);
+    let k = found_check(x, role, domain, hours, places, devices);
     let y = Role {
         founded: true,
         domain: (domain % 8) as u8,
@@ -110,7 +107,7 @@ pub fn decide_found(
 }
 
 pub fn grant_check(x: Role, role: u32, permission: u32) -> Check
-    ensures { λ q. ⌜ checked q ≡ firstNumber (grantGuards x role permission) ⌝ }
+    ensures { λ q. ⌜ checked q ≡ firstNumber ((granting x role permission) .guards) ⌝ }
 {
     let has = member(x.permissions as u64, permission);
     let k = first(has, Refusal::Unchanged, Check::Pass);
@@ -129,7 +126,7 @@ pub fn decide_grant(v: Slots, role: u32, permission: u32) -> Decision
 }
 
 pub fn appoint_check(enrolled: u64, domain: u8, x: Role, user: u32, role: u32) -> Check
-    ensures { λ q. ⌜ checked q ≡ firstNumber (appointGuards enrolled domain x user role) ⌝ }
+    ensures { λ q. ⌜ checked q ≡ firstNumber ((appointing enrolled domain x user role) .guards) ⌝ }
 {
     let known = member(enrolled, user);
     let already = member(x.appointed, user);
@@ -150,7 +147,7 @@ pub fn decide_appoint(v: Slots, user: u32, role: u32) -> Decision
 }
 
 pub fn dismiss_check(enrolled: u64, x: Role, user: u32, role: u32) -> Check
-    ensures { λ q. ⌜ checked q ≡ firstNumber (dismissGuards enrolled x user role) ⌝ }
+    ensures { λ q. ⌜ checked q ≡ firstNumber ((dismissing enrolled x user role) .guards) ⌝ }
 {
     let known = member(enrolled, user);
     let appointed = member(x.appointed, user);
@@ -170,7 +167,7 @@ pub fn decide_dismiss(v: Slots, user: u32, role: u32) -> Decision
 }
 
 pub fn clock_check(clock: u32, tick: u32) -> Check
-    ensures { λ q. ⌜ checked q ≡ firstNumber (clockGuards clock tick) ⌝ }
+    ensures { λ q. ⌜ checked q ≡ firstNumber ((ticking clock tick) .guards) ⌝ }
 {
     first(tick < clock, Refusal::Past, Check::Pass)
 }

@@ -5,8 +5,7 @@ ghost use mathlib.Core.Path.{_≡_};
 ghost use lib.Dec.{T};
 ghost use Rattle.model.specs.Rules.{wellFormed};
 ghost use Rattle.model.specs.Calls.{settled, step};
-ghost use Rattle.model.specs.Requests.{effectOf, callOf};
-ghost use Rattle.dispatch.specs.Decide.{treeCall};
+ghost use Rattle.model.specs.Requests.{effectOf, callOf, treeCall};
 use crate::one::apply_one;
 use dispatch::order_of;
 use model::Answer;
@@ -14,16 +13,14 @@ use model::Refusal;
 use model::Register;
 use model::Reply;
 use model::Request;
-use places::Task;
-use places::TreeCall;
-use places::task_of;
+use model::TreeRequest;
 use revocation::orders::Order;
 use rules::well_formed;
 use sweeps::permissions_of;
 use sweeps::sweep_all;
 
 // A call over the whole tree, by value.
-fn apply_tree(r: Register, t: TreeCall) -> Reply
+fn apply_tree(r: Register, t: TreeRequest) -> Reply
     requires { ⌜ T (wellFormed r) ⌝ }
     ensures { λ z. ⌜ effectOf z ≡ settled r (treeCall t) ⌝ }
 {
@@ -42,14 +39,13 @@ pub fn apply_trusted(r: Register, q: Request) -> Reply
     requires { ⌜ T (wellFormed r) ⌝ }
     ensures { λ z. ⌜ effectOf z ≡ settled r (callOf q) ⌝ }
 {
-    let task = task_of(q);
-    match task {
-        Task::One(one) => {
+    match q {
+        Request::Local(one) => {
             let roles = r.roles;
             let permissions = permissions_of(roles);
             apply_one(r, &permissions, one)
         }
-        Task::Tree(t) => apply_tree(r, t),
+        Request::Tree(t) => apply_tree(r, t),
     }
 }
 

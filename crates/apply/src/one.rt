@@ -3,16 +3,15 @@ ghost use mathlib.Core.Path.{_≡_};
 ghost use lib.Dec.{T};
 ghost use Rattle.model.specs.Rules.{wellFormed};
 ghost use Rattle.model.specs.Calls.{settled};
-ghost use Rattle.model.specs.Requests.{effectOf, callOf};
+ghost use Rattle.model.specs.Requests.{effectOf, localCall};
 ghost use Rattle.slots.specs.Slots.{look, put};
 ghost use Rattle.places.specs.Requests.{namesOf, placesIn};
 ghost use Rattle.slots.proofs.TermLaws.{Column};
-ghost use Rattle.dispatch.specs.Decide.{isOne};
 ghost use Rattle.apply.specs.View.{placesOf, Within};
 use dispatch::decide;
+use model::LocalRequest;
 use model::Register;
 use model::Reply;
-use model::Request;
 use places::capability_at;
 use places::names_of;
 use places::parent_at;
@@ -37,7 +36,7 @@ pub struct Seen {
 }
 
 // The elements that a request names, and where they stand.
-pub fn view(r: Register, q: Request) -> Seen
+pub fn view(r: Register, q: LocalRequest) -> Seen
     ensures { λ v. ⌜ (placesOf (v .at) ≡ placesIn r (namesOf q)) × (v .slots ≡ look r (placesOf (v .at))) × Within (v .at) ⌝ }
 {
     let m = names_of(q);
@@ -89,11 +88,10 @@ pub fn put_back(r: Register, at: Indices, w: Slots) -> Register
 }
 
 // The call on a register that is known to be well-formed, by value: view, decide, commit.
-pub fn apply_one(r: Register, permissions: &[u32; 32], q: Request) -> Reply
+pub fn apply_one(r: Register, permissions: &[u32; 32], q: LocalRequest) -> Reply
     requires { ⌜ T (wellFormed r) ⌝ }
     requires { ⌜ Column (now permissions) (r .roles) ⌝ }
-    requires { ⌜ T (isOne q) ⌝ }
-    ensures { λ z. ⌜ effectOf z ≡ settled r (callOf q) ⌝ }
+    ensures { λ z. ⌜ effectOf z ≡ settled r (localCall q) ⌝ }
 {
     let looked = view(r, q);
     let v = looked.slots;

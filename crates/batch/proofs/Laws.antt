@@ -11,16 +11,16 @@ use lib.Dec.{T}
 use lib.ListN.{length, take, drop, getD, set, replicate, length-map, length-set, take-append-drop, drop-of-length-le}
 use lib.Seq.{take-suc-set, drop-set-lt, drop-cons, getD-take, length-take-le, append-snoc, take-all}
 use Rattle.model.specs.declared.Register.{Register}
-use Rattle.model.specs.declared.Request.the-variants.{Enrol}
+use Rattle.model.specs.declared.Request.the-variants.{Local}
+use Rattle.model.specs.declared.LocalRequest.the-variants.{Enrol}
 use Rattle.model.specs.Rules.{wellFormed}
 use Rattle.model.specs.Rulings.{Outcome, value, refused, Effect}
 use Rattle.model.specs.Calls.{Call, settled, step}
 use Rattle.model.specs.Lists.{Event, call, calls, perform, run, answers}
-use Rattle.model.proofs.Settling.{step-settled}
+use Rattle.model.proofs.Settling.{step-settled, broken}
 use Rattle.model.proofs.Rules.{kept→, kept←}
 use Rattle.model.proofs.Running.{step-keeps}
 use Rattle.slots.proofs.TermLaws.{Column}
-use Rattle.dispatch.proofs.Tasks.{broken}
 use Rattle.batch.specs.declared.Item.{Item}
 use Rattle.batch.specs.declared.Told.{Told}
 use Rattle.batch.specs.Batch.{itemCall, callsOf, toldOutcome, outcomesOf, paddedAnswers}
@@ -71,7 +71,7 @@ rest i n items = calls (map itemCall (drop i (take n items)))
 
 -- what is read past the items
 abbrev pub noItem : Item
-noItem = record { request = Enrol 0 0 }
+noItem = record { request = Local (Enrol 0 0) }
 
 pub rest-more : (items : List Item) (i n : ℕ) → i < n → n ≤ length items → rest i n items ≡ call (itemCall (getD items i noItem)) ∷ rest (i + 1) n items
 rest-more items i n l h =
@@ -84,20 +84,20 @@ rest-none items n h = ap (λ (x : List Item). calls (map itemCall x)) (drop-of-l
 
 -- ---- one call
 
-module _ (r : Register) (c : Call) (z : Effect) (k : T (wellFormed r)) (e : z ≡ settled r c) where
+module _ (r : Register) (c : Call) (z : Effect Register) (k : T (wellFormed r)) (e : z ≡ settled r c) where
   stepped : step r c ≡ z
   stepped = step-settled r c k ∙ sym e
 
   run-more : (es : List Event) → run r (call c ∷ es) ≡ run (z .after) es
   unfolding run perform
-  run-more es = ap (λ (x : Effect). run (x .after) es) stepped
+  run-more es = ap (λ (x : Effect Register). run (x .after) es) stepped
 
   answers-more : (es : List Event) → answers r (call c ∷ es) ≡ z .answer ∷ answers (z .after) es
   unfolding answers perform
-  answers-more es = ap (λ (x : Effect). x .answer ∷ answers (x .after) es) stepped
+  answers-more es = ap (λ (x : Effect Register). x .answer ∷ answers (x .after) es) stepped
 
   still-formed : T (wellFormed (z .after))
-  still-formed = subst (λ (x : Effect). T (wellFormed (x .after))) stepped (kept← ((step r c) .after) (step-keeps r c (kept→ r k)))
+  still-formed = subst (λ (x : Effect Register). T (wellFormed (x .after))) stepped (kept← ((step r c) .after) (step-keeps r c (kept→ r k)))
 
 -- ---- a loop over the items
 
@@ -129,7 +129,7 @@ module _ (start : Register) (items : List Item) (n : ℕ) where
       }
 
   module _ (r : Register) (permissions : List ℕ) (told : List Told) (i : ℕ) (p : Playing start items n r permissions told i) where
-    pub playing-more : (z : Effect) (next : List ℕ) (t : Told) → i < n → z ≡ settled r (itemCall (getD items i noItem)) → toldOutcome t ≡ z .answer
+    pub playing-more : (z : Effect Register) (next : List ℕ) (t : Told) → i < n → z ≡ settled r (itemCall (getD items i noItem)) → toldOutcome t ≡ z .answer
         → Column next (z .after .roles) → length next ≡ 32 → Playing start items n (z .after) next (set told i t) (i + 1)
     playing-more z next t b e o column columns =
         let c = itemCall (getD items i noItem) in
@@ -165,13 +165,13 @@ module _ (start : Register) (items : List Item) (n : ℕ) where
 run-broken : (r : Register) (cs : List Call) → wellFormed r ≡ false → run r (calls cs) ≡ r
 unfolding run perform
 run-broken r [] e = refl
-run-broken r (c ∷ cs) e = ap (λ (z : Effect). run (z .after) (calls cs)) (sym (broken r c e)) ∙ run-broken r cs e
+run-broken r (c ∷ cs) e = ap (λ (z : Effect Register). run (z .after) (calls cs)) (sym (broken r c e)) ∙ run-broken r cs e
 
 answers-broken : (r : Register) (cs : List Call) → wellFormed r ≡ false → answers r (calls cs) ≡ replicate (length cs) (refused 15)
 unfolding answers perform
 answers-broken r [] e = refl
 answers-broken r (c ∷ cs) e =
-    ap (λ (z : Effect). z .answer ∷ answers (z .after) (calls cs)) (sym (broken r c e))
+    ap (λ (z : Effect Register). z .answer ∷ answers (z .after) (calls cs)) (sym (broken r c e))
     ∙ ap (λ (x : List Outcome). refused 15 ∷ x) (answers-broken r cs e)
 
 -- refusals stored one after the other

@@ -15,14 +15,12 @@ use model::Answer;
 use model::Refusal;
 use model::Register;
 use model::Request;
-use places::Task;
 use places::capability_at;
 use places::names_of;
 use places::parent_at;
 use places::role_at;
 use places::seen;
 use places::session_at;
-use places::task_of;
 use places::user_at;
 use revocation::orders::Order;
 use rules::well_formed;
@@ -95,9 +93,8 @@ fn apply_formed(start: Register, items: [Item; 64], n: usize) -> Played
         i = i + 1;
         let item = items[at];
         let request = item.request;
-        let task = task_of(request);
-        match task {
-            Task::One(q) => {
+        match request {
+            Request::Local(q) => {
                 let m = names_of(q);
                 let sn = session_at(m);
                 let s = r.sessions[sn];
@@ -127,7 +124,7 @@ fn apply_formed(start: Register, items: [Item; 64], n: usize) -> Played
                 let decided = d.answer;
                 answers[at] = Told { answer: decided };
             }
-            Task::Tree(t) => {
+            Request::Tree(t) => {
                 let order = order_of(r, t);
                 match order {
                     Order::Answered(answer) => {

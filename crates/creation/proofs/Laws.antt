@@ -1,28 +1,51 @@
--- A test that code leaves out because it always fails, and guards with the terms that they are read from.
-use mathlib.Core.Path.{_≡_, refl, ap, ap₂, _∙_}
+-- A test that code leaves out because it always fails, and guards with the origin that they are read from.
+use mathlib.Core.Path.{_≡_, refl, ap, _∙_}
 use mathlib.Core.Bool.{Bool, true, false, _||_}
 use mathlib.Core.List.{List}
 use Prim.Native.Nat.{ℕ}
+use lib.Dec.{T}
+use lib.ListN.{drop}
+use Rattle.masks.specs.Tests.{each}
+use Rattle.masks.proofs.Truth.{each-at}
 use Rattle.model.specs.declared.Origin.{Origin}
 use Rattle.model.specs.declared.Named.{Named}
 use Rattle.model.specs.declared.Context.{Context}
 use Rattle.model.specs.declared.Plan.{Plan}
 use Rattle.model.specs.State.{Terms}
+use Rattle.model.specs.Requests.{namedOrigin}
 use Rattle.slots.specs.declared.Slots.{Slots}
 use Rattle.slots.specs.Checks.{firstNumber}
+use Rattle.parties.specs.Terms.{partyIn}
 use Rattle.slots.specs.Terms.{originTerms, namedIn}
-use Rattle.creation.specs.declared.Standing.{Standing}
-use Rattle.creation.specs.Creation.{standingOf, createGuards}
+use Rattle.slots.proofs.CheckLaws.{in-range, ranged-same}
+use Rattle.slots.proofs.TermLaws.{named-exact}
+use Rattle.creation.specs.Creation.{plannedRanges, planned, madeOf, creatingFrom, creatingOn}
 
 pub or-false : (a : Bool) → (a || false) ≡ a
 or-false true = refl
 or-false false = refl
 
-pub create-agrees : (v : Slots) (permissions : List ℕ) (user : ℕ) (origin : Named) (at : Context) (plan : Plan) {k : ℕ} {s : Standing} {t : Terms} {o : Origin}
-    → k ≡ firstNumber (createGuards (v .enrolled) (v .count) s t user origin at plan)
-    → s ≡ standingOf v user origin → t ≡ originTerms v permissions o → o ≡ namedIn origin
-    → k ≡ firstNumber (createGuards (v .enrolled) (v .count) (standingOf v user origin) (originTerms v permissions (namedIn origin)) user origin at plan)
-create-agrees v permissions user origin at plan e p q m =
+-- the guards with the origin as it is named, and the terms as they are read
+pub create-agrees : (v : Slots) (permissions : List ℕ) (user : ℕ) (origin : Named) (at : Context) (plan : Plan) {k : ℕ} {t : Terms} {o : Origin}
+    → k ≡ firstNumber ((creatingFrom (v .clock) (v .enrolled) (v .count) (partyIn o (v .role) (v .parent)) t user origin at plan) .guards)
+    → t ≡ originTerms v permissions o → o ≡ namedIn origin
+    → k ≡ firstNumber ((creatingOn v permissions (namedOrigin origin) user origin at plan) .guards)
+create-agrees v permissions user origin at plan {k} {t} {o} e q m =
+    let ts : List Bool = plannedRanges user origin at plan in
     e
-    ∙ ap₂ (λ (x : Standing) (y : Terms). firstNumber (createGuards (v .enrolled) (v .count) x y user origin at plan)) p
-    (q ∙ ap (originTerms v permissions) m)
+    ∙ ap (λ (y : Terms). firstNumber ((creatingFrom (v .clock) (v .enrolled) (v .count) (partyIn o (v .role) (v .parent)) y user origin at plan) .guards)) q
+    ∙ ranged-same 2 ts _ _ (λ h. ap (λ (x : Origin). drop 1 ((creatingOn v permissions x user origin at plan) .guards)) (m ∙ named-exact origin (each-at ts h 1)))
+
+-- the new capability has the numbers of the request
+pub made-exact : (user : ℕ) (o : Named) (at : Context) (plan : Plan) → T (each (plannedRanges user o at plan)) → madeOf user o plan ≡ planned user (namedOrigin o) plan
+made-exact user o at plan h =
+    let ts = plannedRanges user o at plan in
+    rw (
+      in-range user 64 (each-at ts h 0),
+      named-exact o (each-at ts h 1),
+      in-range (plan .uses) 65536 (each-at ts h 5),
+      in-range (plan .creations) 65536 (each-at ts h 6),
+      in-range (plan .hops) 65536 (each-at ts h 7),
+      in-range (plan .places) 65536 (each-at ts h 9),
+      in-range (plan .devices) 65536 (each-at ts h 10),
+    )

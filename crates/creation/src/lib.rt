@@ -3,27 +3,37 @@ ghost use mathlib.Core.Path.{_≡_};
 ghost use lib.Dec.{leb};
 ghost use Rattle.masks.specs.Masks.{within};
 ghost use Rattle.masks.specs.Tests.{each};
-ghost use Rattle.model.specs.State.{below, admitted, inContext};
-ghost use Rattle.model.specs.Rules.{isOrigin};
+ghost use Prim.Native.Nat.{ℕ};
+ghost use Rattle.model.specs.declared.Origin.{Origin as OriginHeld};
+ghost use Rattle.model.specs.State.{Party, claims, below};
 ghost use Rattle.model.specs.Requests.{namedOrigin};
 ghost use Rattle.slots.specs.Checks.{checked, firstNumber};
 ghost use Rattle.slots.specs.Slots.{ruledOf};
-ghost use Rattle.slots.specs.Terms.{termsIn};
-ghost use Rattle.creation.specs.Creation.{rangeTests, planClaims, standingOf, countedIn, madeOf, createGuards, createDecision};
+ghost use Rattle.parties.specs.Terms.{partyIn, termsIn};
+ghost use Rattle.creation.specs.Creation.{standingOf, planned, madeOf, plannedRanges, creatingFrom, createDecision};
 use masks::contained;
 use masks::member;
 use model::Answer;
 use model::Capability;
 use model::Context;
 use model::Named;
+use model::Origin;
 use model::Plan;
 use model::Refusal;
+use parties::Allowance;
+use parties::present_in;
 use slots::Decision;
 use slots::Slots;
 use slots::checks::Check;
 use slots::checks::first;
 use slots::checks::raised;
-use slots::terms::Allowance;
+use slots::origins::admits;
+use slots::origins::alive_in;
+use slots::origins::counted_in;
+use slots::origins::creates_in;
+use slots::origins::in_context;
+use slots::origins::member_in;
+use slots::origins::named_range;
 use slots::terms::origin_allows;
 use slots::terms::origin_named;
 
@@ -35,50 +45,25 @@ pub struct Standing {
     pub may: bool,
 }
 
-pub fn standing_of(v: Slots, user: u32, origin: Named) -> Standing
-    ensures { λ q. ⌜ q ≡ standingOf v user origin ⌝ }
+pub fn standing_of(v: Slots, user: u32, o: Origin) -> Standing
+    ensures { λ q. ⌜ q ≡ standingOf (v .clock) (v .count) user (partyIn o (v .role) (v .parent)) ⌝ }
 {
     let c = v.parent;
     let x = v.role;
-    match origin {
-        Named::Role(k) => Standing {
-            there: x.founded,
-            member: member(x.appointed, user),
-            alive: true,
-            may: true,
-        },
-        Named::Capability(n) => Standing {
-            there: n < v.count as u32,
-            member: member(c.holders, user),
-            alive: (c.first <= v.clock) & (v.clock <= c.last),
-            may: c.creations < c.creation_limit,
-        },
+    Standing {
+        there: present_in(o, x, v.count),
+        member: member_in(o, x, c, user),
+        alive: alive_in(o, c, v.clock),
+        may: creates_in(o, c),
     }
-}
-
-// The number that names an origin is in its range.
-pub fn named_in_range(origin: Named) -> bool
-    ensures { λ q. ⌜ q ≡ isOrigin (namedOrigin origin) ⌝ }
-{
-    match origin {
-        Named::Role(k) => k < 32,
-        Named::Capability(n) => n < 256,
-    }
-}
-
-// Hour, place and device are in their ranges.
-pub fn context_in_range(at: Context) -> bool
-    ensures { λ q. ⌜ q ≡ inContext (at .hour) (at .place) (at .device) ⌝ }
-{
-    (at.hour < 24) & (at.place < 16) & (at.device < 16)
 }
 
 // The numbers of a request are in their ranges; the first tick is at most the last.
 pub fn in_ranges(user: u32, origin: Named, at: Context, plan: Plan) -> bool
-    ensures { λ q. ⌜ q ≡ each (rangeTests user origin at plan) ⌝ }
+    ensures { λ q. ⌜ q ≡ each (plannedRanges user origin at plan) ⌝ }
 {
-    let named = named_in_range(origin);
-    let context = context_in_range(at);
+    let named = named_range(origin);
+    let context = in_context(at);
     (user < 64)
         & named
         & context
@@ -89,16 +74,6 @@ pub fn in_ranges(user: u32, origin: Named, at: Context, plan: Plan) -> bool
         & (plan.places < 65536)
         & (plan.devices < 65536)
         & (plan.first <= plan.last)
-}
-
-// The three masks of an origin have the context's bits.
-pub fn admits(a: Allowance, at: Context) -> bool
-    ensures { λ q. ⌜ q ≡ admitted (termsIn a) (at .hour) (at .place) (at .device) ⌝ }
-{
-    let hour = member(a.hours as u64, at.hour);
-    let place = member(a.places as u64, at.place);
-    let device = member(a.devices as u64, at.device);
-    hour & place & device
 }
 
 // A number against an origin's limit, a mask against an origin's mask.
@@ -116,7 +91,7 @@ pub fn contained16(m: u32, mask: u16) -> bool
 
 // Masks, life and limits of the plan lie within what the origin allows.
 pub fn plan_below(plan: Plan, a: Allowance) -> bool
-    ensures { λ q. ⌜ q ≡ below (planClaims plan) (termsIn a) ⌝ }
+    ensures { λ q. ⌜ ((user : ℕ) (o : OriginHeld) → q ≡ below (claims (planned user o plan)) (termsIn a)) ⌝ }
 {
     let hours = contained(plan.hours, a.hours);
     let places = contained16(plan.places, a.places);
@@ -133,20 +108,6 @@ pub fn plan_below(plan: Plan, a: Allowance) -> bool
         & creations
         & hops
         & !a.revoked
-}
-
-// The origin with one creation more, where it is a capability.
-pub fn counted(origin: Named, c: Capability) -> Capability
-    ensures { λ q. ⌜ q ≡ countedIn origin c ⌝ }
-{
-    match origin {
-        Named::Role(k) => c,
-        Named::Capability(n) => {
-            let mut d = c;
-            d.creations = raised(c.creations, c.creation_limit);
-            d
-        }
-    }
 }
 
 // The new capability.
@@ -186,7 +147,7 @@ pub fn create_check(
     at: Context,
     plan: Plan,
 ) -> Check
-    ensures { λ q. ⌜ checked q ≡ firstNumber (createGuards enrolled count s (termsIn a) user origin at plan) ⌝ }
+    ensures { λ q. ⌜ ((clock : ℕ) (y : Party) → s ≡ standingOf clock count user y → checked q ≡ firstNumber ((creatingFrom clock enrolled count y (termsIn a) user origin at plan) .guards)) ⌝ }
 {
     let maker = member(enrolled, user);
     let grants = member(a.grants as u64, 0);
@@ -217,7 +178,7 @@ pub fn decide_create(
 {
     let o = origin_named(origin);
     let a = origin_allows(v, permissions, o);
-    let s = standing_of(v, user, origin);
+    let s = standing_of(v, user, o);
     let k = create_check(v.enrolled, v.count, s, a, user, origin, at, plan);
     match k {
         Check::Refuse(why) => Decision {
@@ -225,7 +186,7 @@ pub fn decide_create(
             slots: v,
         },
         Check::Pass => {
-            let p = counted(origin, v.parent);
+            let p = counted_in(o, v.parent);
             let c = made(user, origin, plan);
             let mut w = v;
             w.count = raised(v.count, 256);

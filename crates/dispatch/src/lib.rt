@@ -5,7 +5,8 @@ ghost use Rattle.model.specs.Rules.{wellFormed};
 ghost use Rattle.model.specs.Calls.{settled};
 ghost use Rattle.slots.specs.Slots.{ruledOf};
 ghost use Rattle.revocation.specs.Orders.{orderEffect};
-ghost use Rattle.dispatch.specs.Decide.{decideOf, treeCall};
+ghost use Rattle.model.specs.Requests.{treeCall};
+ghost use Rattle.dispatch.specs.Decide.{decideOf};
 use administration::decide_appoint;
 use administration::decide_clock;
 use administration::decide_dismiss;
@@ -16,11 +17,9 @@ use creation::decide_create;
 use giving::decide_allow;
 use giving::decide_hand;
 use giving::decide_lend;
-use model::Answer;
-use model::Refusal;
+use model::LocalRequest;
 use model::Register;
-use model::Request;
-use places::TreeCall;
+use model::TreeRequest;
 use revocation::amending::amend_order;
 use revocation::comparing::same_order;
 use revocation::orders::Order;
@@ -32,13 +31,13 @@ use sessions::decide_open;
 use slots::Decision;
 use slots::Slots;
 
-// A request that reads or changes the whole tree is not decided here.
-pub fn decide(v: Slots, permissions: &[u32; 32], q: Request) -> Decision
+// A request that changes only elements that it names.
+pub fn decide(v: Slots, permissions: &[u32; 32], q: LocalRequest) -> Decision
     ensures { λ z. ⌜ ruledOf z ≡ decideOf v (now (permissions .entry)) q ⌝ }
 {
     match q {
-        Request::Enrol(user, domain) => decide_enrol(v, user, domain),
-        Request::Found(role, domain, hours, places, devices) => decide_found(
+        LocalRequest::Enrol(user, domain) => decide_enrol(v, user, domain),
+        LocalRequest::Found(role, domain, hours, places, devices) => decide_found(
             v,
             role,
             domain,
@@ -46,15 +45,11 @@ pub fn decide(v: Slots, permissions: &[u32; 32], q: Request) -> Decision
             places,
             devices,
         ),
-        Request::Grant(role, permission) => decide_grant(v, role, permission),
-        Request::Withdraw(_, _) => Decision {
-            answer: Answer::Refused(Refusal::Malformed),
-            slots: v,
-        },
-        Request::Appoint(user, role) => decide_appoint(v, user, role),
-        Request::Dismiss(user, role) => decide_dismiss(v, user, role),
-        Request::Clock(tick) => decide_clock(v, tick),
-        Request::Create(user, origin, at, plan) => decide_create(
+        LocalRequest::Grant(role, permission) => decide_grant(v, role, permission),
+        LocalRequest::Appoint(user, role) => decide_appoint(v, user, role),
+        LocalRequest::Dismiss(user, role) => decide_dismiss(v, user, role),
+        LocalRequest::Clock(tick) => decide_clock(v, tick),
+        LocalRequest::Create(user, origin, at, plan) => decide_create(
             v,
             permissions,
             user,
@@ -62,36 +57,29 @@ pub fn decide(v: Slots, permissions: &[u32; 32], q: Request) -> Decision
             at,
             plan,
         ),
-        Request::Allow(user, number, mask) => decide_allow(v, permissions, user, number, mask),
-        Request::Lend(user, number, mask) => decide_lend(v, permissions, user, number, mask),
-        Request::Hand(user, receiver, number) => decide_hand(v, user, receiver, number),
-        Request::Open(session, user, on, at) => decide_open(v, session, user, on, at),
-        Request::Check(session, permission) => decide_check(v, permissions, session, permission),
-        Request::Amend(_, _, _) => Decision {
-            answer: Answer::Refused(Refusal::Malformed),
-            slots: v,
-        },
-        Request::Revoke(_, _) => Decision {
-            answer: Answer::Refused(Refusal::Malformed),
-            slots: v,
-        },
-        Request::Close(session) => decide_close(v, session),
-        Request::Same(_, _) => Decision {
-            answer: Answer::Refused(Refusal::Malformed),
-            slots: v,
-        },
+        LocalRequest::Allow(user, number, mask) => decide_allow(v, permissions, user, number, mask),
+        LocalRequest::Lend(user, number, mask) => decide_lend(v, permissions, user, number, mask),
+        LocalRequest::Hand(user, receiver, number) => decide_hand(v, user, receiver, number),
+        LocalRequest::Open(session, user, on, at) => decide_open(v, session, user, on, at),
+        LocalRequest::Check(session, permission) => decide_check(
+            v,
+            permissions,
+            session,
+            permission,
+        ),
+        LocalRequest::Close(session) => decide_close(v, session),
     }
 }
 
 // What a call over the whole tree comes to, on a register that is known to be well-formed: nothing changes yet.
-pub fn order_of(r: Register, t: TreeCall) -> Order
+pub fn order_of(r: Register, t: TreeRequest) -> Order
     requires { ⌜ T (wellFormed r) ⌝ }
     ensures { λ z. ⌜ orderEffect r z ≡ settled r (treeCall t) ⌝ }
 {
     match t {
-        TreeCall::Withdraw(role, permission) => withdraw_order(r, role, permission),
-        TreeCall::Amend(user, number, change) => amend_order(r, user, number, change),
-        TreeCall::Revoke(user, number) => revoke_order(r, user, number),
-        TreeCall::Same(m, n) => same_order(r, m, n),
+        TreeRequest::Withdraw(role, permission) => withdraw_order(r, role, permission),
+        TreeRequest::Amend(user, number, change) => amend_order(r, user, number, change),
+        TreeRequest::Revoke(user, number) => revoke_order(r, user, number),
+        TreeRequest::Same(m, n) => same_order(r, m, n),
     }
 }

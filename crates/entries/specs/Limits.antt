@@ -12,60 +12,10 @@ use Rattle.model.specs.declared.Capability.{Capability}
 use Rattle.model.specs.declared.Session.{Session}
 use Rattle.model.specs.State.{Terms, claims, below, admitted, inContext}
 use Rattle.model.specs.Rules.{isUser, isOrigin, isDomain, bits, roleBlank, capabilityBlank, inRange, earlier, ownKeeps, sessionBlank}
-use Rattle.entries.specs.declared.limits.Limits.{Limits}
 
 abbrev pub numberOf : Origin → ℕ
 numberOf (ofRole k) = k
 numberOf (ofCapability k) = k
-
--- what the origin allows: it is the role x, or the capability p with the authority a
-abbrev pub limitsOf : Origin → ℕ → Role → Capability → ℕ → Limits
-limitsOf (ofRole k) count x p a =
-    record {
-      there = ltb k 32 && x .founded;
-      authority = x .permissions;
-      lent = 2 ^ (k % 32);
-      hours = x .hours;
-      places = x .places;
-      devices = x .devices;
-      first = 0;
-      last = 4294967295;
-      «use_limit» = 65535;
-      «creation_limit» = 65535;
-      «hop_limit» = 65535;
-      revoked = false;
-    }
-limitsOf (ofCapability k) count x p a =
-    record {
-      there = ltb k count;
-      authority = a;
-      lent = p .lent;
-      hours = p .hours;
-      places = p .places;
-      devices = p .devices;
-      first = p .first;
-      last = p .last;
-      «use_limit» = p .«use_limit»;
-      «creation_limit» = p .«creation_limit»;
-      «hop_limit» = p .«hop_limit»;
-      revoked = p .revoked;
-    }
-
-abbrev pub asTerms : Limits → Terms
-asTerms u =
-    record {
-      grants = u .authority;
-      lendable = u .lent;
-      hours = u .hours;
-      places = u .places;
-      devices = u .devices;
-      first = u .first;
-      last = u .last;
-      use-limit = u .«use_limit»;
-      creation-limit = u .«creation_limit»;
-      hop-limit = u .«hop_limit»;
-      revoked = u .revoked;
-    }
 
 -- the rules of a founded role x; peers are the users of its domain
 abbrev pub roleWith : ℕ → ℕ → Role → List Bool
@@ -83,33 +33,34 @@ roleWith enrolled peers x =
 abbrev pub roleKeepsWith : ℕ → ℕ → Role → Bool
 roleKeepsWith enrolled peers x = cond (x .founded) (each (roleWith enrolled peers x)) (roleBlank x)
 
--- the rules of capability n: founded are the roles that are, u is what its origin allows, made the number created from it
-abbrev pub capabilityWith : ℕ → ℕ → ℕ → Limits → ℕ → Capability → List Bool
-capabilityWith enrolled founded n u made c =
+-- the rules of capability n: founded are the roles that are, `there` says whether its origin is, t is what that allows, made the number
+-- created from it
+abbrev pub capabilityWith : ℕ → ℕ → ℕ → Bool → Terms → ℕ → Capability → List Bool
+capabilityWith enrolled founded n there t made c =
     inRange c
     ∷ within (c .lent) founded
-    ∷ u .there
+    ∷ there
     ∷ earlier n (c .origin)
-    ∷ below (claims c) (asTerms u)
+    ∷ below (claims c) t
     ∷ eqb (c .creations) made
     ∷ leb (c .creations) (c .«creation_limit»)
     ∷ ownKeeps enrolled c
     ∷ []
 
-unfoldable pub placeWith : ℕ → ℕ → ℕ → ℕ → Limits → ℕ → Capability → Bool
-placeWith enrolled founded count n u made c =
-    cond (ltb n count) (each (capabilityWith enrolled founded n u made c)) (capabilityBlank c)
+unfoldable pub placeWith : ℕ → ℕ → ℕ → ℕ → Bool → Terms → ℕ → Capability → Bool
+placeWith enrolled founded count n there t made c =
+    cond (ltb n count) (each (capabilityWith enrolled founded n there t made c)) (capabilityBlank c)
 
--- the rules of an open session; u is what its role or capability allows
-abbrev pub sessionWith : ℕ → Limits → Session → List Bool
-sessionWith enrolled u s =
+-- the rules of an open session; t is what its role or capability allows
+abbrev pub sessionWith : ℕ → Bool → Terms → Session → List Bool
+sessionWith enrolled there t s =
     isUser (s .user)
     ∷ isOrigin (s .on)
     ∷ inContext (s .hour) (s .place) (s .device)
     ∷ has enrolled (s .user)
-    ∷ u .there
-    ∷ admitted (asTerms u) (s .hour) (s .place) (s .device)
+    ∷ there
+    ∷ admitted t (s .hour) (s .place) (s .device)
     ∷ []
 
-unfoldable pub sessionKeepsWith : ℕ → Limits → Session → Bool
-sessionKeepsWith enrolled u s = cond (s .active) (each (sessionWith enrolled u s)) (sessionBlank s)
+unfoldable pub sessionKeepsWith : ℕ → Bool → Terms → Session → Bool
+sessionKeepsWith enrolled there t s = cond (s .active) (each (sessionWith enrolled there t s)) (sessionBlank s)

@@ -2,14 +2,15 @@
 ghost use mathlib.Core.Path.{_≡_};
 ghost use Rattle.masks.specs.Tests.{each};
 ghost use Rattle.model.specs.Rules.{capabilityBlank, inRange, ownKeeps};
+ghost use Rattle.parties.specs.Terms.{termsIn};
 ghost use Rattle.entries.specs.Limits.{capabilityWith, placeWith};
 use crate::bits::has64;
-use crate::limits::Limits;
 use crate::limits::is_below;
 use crate::limits::is_earlier;
 use crate::limits::is_origin;
 use crate::limits::is_role_zero;
 use model::Capability;
+use parties::Allowance;
 
 // What is kept for a capability not there is 0.
 fn is_blank(c: Capability) -> bool
@@ -55,8 +56,16 @@ fn keeps_own(enrolled: u64, c: Capability) -> bool
 }
 
 // The rules of capability n, which is c.
-fn keeps_all(enrolled: u64, founded: u64, n: usize, u: Limits, made: u16, c: Capability) -> bool
-    ensures { λ q. ⌜ q ≡ each (capabilityWith enrolled founded n u made c) ⌝ }
+fn keeps_all(
+    enrolled: u64,
+    founded: u64,
+    n: usize,
+    there: bool,
+    u: Allowance,
+    made: u16,
+    c: Capability,
+) -> bool
+    ensures { λ q. ⌜ q ≡ each (capabilityWith enrolled founded n there (termsIn u) made c) ⌝ }
 {
     let o = c.origin;
     let lent = c.lent as u64;
@@ -66,7 +75,7 @@ fn keeps_all(enrolled: u64, founded: u64, n: usize, u: Limits, made: u16, c: Cap
     let own = keeps_own(enrolled, c);
     ranged
         & (lent & founded == lent)
-        & u.there
+        & there
         & placed
         & fits
         & (c.creations == made)
@@ -80,14 +89,15 @@ pub fn keeps_place(
     founded: u64,
     count: u16,
     n: usize,
-    u: Limits,
+    there: bool,
+    u: Allowance,
     made: u16,
     c: Capability,
 ) -> bool
-    ensures { λ q. ⌜ q ≡ placeWith enrolled founded count n u made c ⌝ }
+    ensures { λ q. ⌜ q ≡ placeWith enrolled founded count n there (termsIn u) made c ⌝ }
 {
     if n < count as usize {
-        keeps_all(enrolled, founded, n, u, made, c)
+        keeps_all(enrolled, founded, n, there, u, made, c)
     } else {
         is_blank(c)
     }

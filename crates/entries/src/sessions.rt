@@ -2,13 +2,14 @@
 ghost use mathlib.Core.Path.{_≡_};
 ghost use Rattle.masks.specs.Tests.{each};
 ghost use Rattle.model.specs.Rules.{sessionBlank};
+ghost use Rattle.parties.specs.Terms.{termsIn};
 ghost use Rattle.entries.specs.Limits.{sessionWith, sessionKeepsWith};
 use crate::bits::has64;
-use crate::limits::Limits;
 use crate::limits::admits;
 use crate::limits::is_origin;
 use crate::limits::is_role_zero;
 use model::Session;
+use parties::Allowance;
 
 // What is kept for a session not open is 0.
 fn is_blank(s: Session) -> bool
@@ -20,8 +21,8 @@ fn is_blank(s: Session) -> bool
 }
 
 // A session's context has its ranges and is admitted by its role or capability, which allows u.
-fn keeps_all(enrolled: u64, u: Limits, s: Session) -> bool
-    ensures { λ q. ⌜ q ≡ each (sessionWith enrolled u s) ⌝ }
+fn keeps_all(enrolled: u64, there: bool, u: Allowance, s: Session) -> bool
+    ensures { λ q. ⌜ q ≡ each (sessionWith enrolled there (termsIn u) s) ⌝ }
 {
     let o = s.on;
     let ranged = is_origin(o);
@@ -31,15 +32,15 @@ fn keeps_all(enrolled: u64, u: Limits, s: Session) -> bool
         & ranged
         & ((s.hour < 24) & (s.place < 16) & (s.device < 16))
         & known
-        & u.there
+        & there
         & admitted
 }
 
-pub fn session_keeps(enrolled: u64, u: Limits, s: Session) -> bool
-    ensures { λ q. ⌜ q ≡ sessionKeepsWith enrolled u s ⌝ }
+pub fn session_keeps(enrolled: u64, there: bool, u: Allowance, s: Session) -> bool
+    ensures { λ q. ⌜ q ≡ sessionKeepsWith enrolled there (termsIn u) s ⌝ }
 {
     if s.active {
-        keeps_all(enrolled, u, s)
+        keeps_all(enrolled, there, u, s)
     } else {
         is_blank(s)
     }

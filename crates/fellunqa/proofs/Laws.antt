@@ -179,7 +179,7 @@ module _ (image line : List ℕ) (room : ℕ) (l : ReadImage) (found : (l .exact
       pub by-call : (p : Request) → q ≡ Line p → performed room r (callOf p) ≡ entry image line room
       unfolding performed
       by-call p g =
-          ap (λ (y : Effect). answered room (y .answer) (y .after)) (sym (step-settled r (callOf p) loaded-formed))
+          ap (λ (y : Effect Register). answered room (y .answer) (y .after)) (sym (step-settled r (callOf p) loaded-formed))
           ∙ sym (by-line ∙ ap (called room r) (sym e ∙ ap parsedCall g))
 
 -- ---- what a call comes to: its answer is a, and the register after it z
@@ -188,11 +188,11 @@ module _ (room : ℕ) (r : Register) (c : Call) (a : Answer) (z : Register) (for
   pub after-formed : T (wellFormed z)
   after-formed =
       let e : record { answer = outcomeOf a; after = z } ≡ step r c = f ∙ sym (step-settled r c formed) in
-      subst (λ (y : Effect). T (wellFormed (y .after))) (sym e) (kept← _ (step-keeps r c (kept→ r formed)))
+      subst (λ (y : Effect Register). T (wellFormed (y .after))) (sym e) (kept← _ (step-keeps r c (kept→ r formed)))
 
   by-effect : answered room (outcomeOf a) z ≡ performed room r c
   unfolding performed
-  by-effect = ap (λ (y : Effect). answered room (y .answer) (y .after)) f
+  by-effect = ap (λ (y : Effect Register). answered room (y .answer) (y .after)) f
 
   pub by-value : (v : ℕ) → a ≡ Value v → fitted room v (encode z) ≡ performed room r c
   by-value v e = ap (λ (x : Answer). answered room (outcomeOf x) z) (sym e) ∙ by-effect

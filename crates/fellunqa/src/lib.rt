@@ -7,9 +7,8 @@ ghost use lib.ListN.{length};
 ghost use Rattle.masks.specs.Bytes.{bytesOf, front, split};
 ghost use Rattle.model.specs.Rules.{wellFormed};
 ghost use Rattle.model.specs.Image.{encode};
-ghost use Rattle.model.specs.Requests.{refusalNumber, callOf, parsedCall};
+ghost use Rattle.model.specs.Requests.{refusalNumber, callOf, localCall, parsedCall};
 ghost use Rattle.model.specs.Entry.{fitted, soleLine, entry, returned, bufferAfter};
-ghost use Rattle.dispatch.specs.Decide.{isOne};
 ghost use Rattle.fellunqa.specs.Perform.{performed};
 use answers::refusal_number;
 use apply::apply_trusted;
@@ -19,18 +18,17 @@ use dispatch::decide;
 use image::read_checked;
 use image::save_trusted;
 use model::Answer;
+use model::LocalRequest;
 use model::Parsed;
 use model::Refusal;
 use model::Register;
 use model::Request;
-use places::Task;
 use places::capability_at;
 use places::names_of;
 use places::parent_at;
 use places::role_at;
 use places::seen;
 use places::session_at;
-use places::task_of;
 use places::user_at;
 use requests::parse;
 use sweeps::permissions_of;
@@ -84,9 +82,9 @@ fn deliver(buffer: &mut [u8], r: Register, v: u32) -> i64
 
 // The call of a request that changes only elements that it names. They are read here, since `view` and a reply by value would copy
 // the register four times more.
-fn answer_one(area: &mut [u8], r: Register, q: Request) -> i64
-    requires { ⌜ T (wellFormed r) × T (isOne q) ⌝ }
-    ensures { λ z. ⌜ (z ≡ returned (performed (length (now (area .entry))) r (callOf q))) × (now (area .exit) ≡ bufferAfter (performed (length (now (area .entry))) r (callOf q)) (now (area .entry))) ⌝ }
+fn answer_one(area: &mut [u8], r: Register, q: LocalRequest) -> i64
+    requires { ⌜ T (wellFormed r) ⌝ }
+    ensures { λ z. ⌜ (z ≡ returned (performed (length (now (area .entry))) r (localCall q))) × (now (area .exit) ≡ bufferAfter (performed (length (now (area .entry))) r (localCall q)) (now (area .entry))) ⌝ }
 {
     let m = names_of(q);
     let roles = r.roles;
@@ -151,8 +149,7 @@ pub extern "C" fn fellunqa_apply(image: &[u8], line: &[u8], area: &mut [u8]) -> 
     let Parsed::Line(request) = parsed else {
         return -1;
     };
-    let task = task_of(request);
-    if let Task::One(q) = task {
+    if let Request::Local(q) = request {
         answer_one(area, read.register, q)
     } else {
         answer_any(area, read.register, request)

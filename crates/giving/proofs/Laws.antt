@@ -6,8 +6,8 @@ use Prim.Native.Nat.{ℕ}
 use lib.Dec.{T}
 use Rattle.model.specs.declared.Capability.{Capability}
 use Rattle.model.specs.State.{Terms}
+use Rattle.model.specs.Rulings.{Effect}
 use Rattle.slots.specs.declared.Slots.{Slots}
-use Rattle.slots.specs.Slots.{Ruled}
 use Rattle.slots.specs.Terms.{originTerms}
 use Rattle.giving.specs.Giving.{giveDecision}
 
@@ -16,7 +16,7 @@ and-sure true true h = refl
 and-sure false true h = refl
 and-sure a false h = absurd h
 
-pub give-agrees : (v : Slots) (permissions : List ℕ) (given : Terms → ℕ) (had user n mask : ℕ) (d : Capability) {q : Ruled} {t : Terms} → t ≡ originTerms v permissions (v .capability .origin)
+pub give-agrees : (v : Slots) (permissions : List ℕ) (given : Terms → ℕ) (had user n mask : ℕ) (d : Capability) {q : Effect Slots} {t : Terms} → t ≡ originTerms v permissions (v .capability .origin)
     → q ≡ giveDecision v permissions (given t) had user n mask d
     → q ≡ giveDecision v permissions (given (originTerms v permissions (v .capability .origin))) had user n mask d
 give-agrees v permissions given had user n mask d p e = e ∙ ap (λ (x : Terms). giveDecision v permissions (given x) had user n mask d) p

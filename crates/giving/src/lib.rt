@@ -1,9 +1,10 @@
 // Giving: allow, lend and hand, decided over the elements that they name.
 ghost use mathlib.Core.Path.{_≡_};
 ghost use Rattle.model.specs.Setters.{withPermissions, withLent};
+ghost use Rattle.model.specs.Delegation.{giveGuards, handing};
 ghost use Rattle.slots.specs.Checks.{checked, firstNumber};
 ghost use Rattle.slots.specs.Slots.{ruledOf};
-ghost use Rattle.giving.specs.Giving.{handGuards, handDecision, giveGuards, giveDecision, renewedIn, allowDecision, lendDecision};
+ghost use Rattle.giving.specs.Giving.{handDecision, giveDecision, renewedIn, allowDecision, lendDecision};
 use masks::contained;
 use masks::including64;
 use masks::join;
@@ -39,7 +40,7 @@ pub fn hand_check(
     receiver: u32,
     number: u32,
 ) -> Check
-    ensures { λ q. ⌜ checked q ≡ firstNumber (handGuards enrolled count c user receiver number) ⌝ }
+    ensures { λ q. ⌜ checked q ≡ firstNumber ((handing enrolled count c user receiver number) .guards) ⌝ }
 {
     let giver = member(enrolled, user);
     let taker = member(enrolled, receiver);

@@ -16,11 +16,11 @@ use Rattle.model.specs.declared.Capability.{Capability}
 use Rattle.model.specs.declared.Register.{Register}
 use Rattle.masks.specs.Tests.{countBelow}
 use Rattle.masks.proofs.MaskLaws.{ones-zero}
-use Rattle.model.specs.State.{newCapability, capabilityTerms, Terms, terms, claims, authority, capabilityAt, originAt, blankCapability, exists}
+use Rattle.model.specs.State.{party, mayCreate, newCapability, capabilityTerms, Terms, terms, claims, authority, capabilityAt, originAt, blankCapability, exists}
 use Rattle.model.specs.Lineage.{children, isParent}
 use Rattle.model.specs.Rules.{earlier}
 use Rattle.model.specs.Setters.{withCreations}
-use Rattle.model.specs.Delegation.{createRuling, counted, mayCreate}
+use Rattle.model.specs.Delegation.{createRuling, counted}
 use Rattle.model.specs.Rulings.{termsOf}
 use Rattle.masks.proofs.Truth.{T→true, T→false}
 use Rattle.masks.proofs.Bounded.{set-cases, countBelow-ext, countBelow-none}
@@ -28,7 +28,7 @@ use Rattle.masks.proofs.MaskLaws.{within-zero}
 use Rattle.model.proofs.Settling.{Clear, passed}
 use Rattle.model.specs.Invariant.{Below}
 use Rattle.model.proofs.Kept.{below→, OwnKept, CapabilityKept, CapabilitiesKept, Kept}
-use Rattle.model.proofs.Tree.{falls}
+use Rattle.model.proofs.Tree.{there-exists, falls}
 use Rattle.model.proofs.Parts.{same-sessions}
 
 -- one creation more, for the origin
@@ -65,7 +65,7 @@ counted-length cs (ofCapability m) = length-set cs m _
 
 module _
     (enrolled : ℕ) (roles : List Role) (count : ℕ) (cs : List Capability) (kept : CapabilitiesKept enrolled roles count cs) (room : count < 256)
-    (o : Origin) (o-there : T (exists roles count o)) (may : T (mayCreate cs o))
+    (o : Origin) (o-there : T (exists roles count o)) (may : T (mayCreate (party roles cs o)))
     (c : Capability) (c-origin : c .origin ≡ o) (c-creations : c .creations ≡ 0) (c-fits : Below (claims c) (terms roles cs o)) (c-own : OwnKept enrolled c) where
   abbrev pub created : List Capability
   created = set (counted cs o) count c
@@ -115,7 +115,7 @@ module _
   unfolding children
   none-yet = countBelow-none count _ (λ k l. no-child (originAt cs k) (λ j e. omega (arith, falls enrolled roles count cs kept k j l e)))
 
-  below-limit : (i : ℕ) (x : Origin) → T (mayCreate cs x) → T (isParent i x) → (capabilityAt cs i) .creations < (capabilityAt cs i) .«creation_limit»
+  below-limit : (i : ℕ) (x : Origin) → T (mayCreate (party roles cs x)) → T (isParent i x) → (capabilityAt cs i) .creations < (capabilityAt cs i) .«creation_limit»
   below-limit i (ofRole k) h t = absurd t
   below-limit i (ofCapability m) h t =
       subst (λ (j : ℕ). (capabilityAt cs j) .creations < (capabilityAt cs j) .«creation_limit») (eqb→eq m i t) (ltb→lt _ _ h)
@@ -188,7 +188,7 @@ unfolding createRuling
 create-keeps r user o a b d first last uses creations hops hours places devices k g =
     let c : Capability = newCapability user o first last uses creations hops hours places devices in
     let rs = (createRuling r user o a b d c) .guards in
-    let o-there : T (exists (r .roles) (r .count) o) = passed 3 rs g .1 .0 in
+    let o-there : T (exists (r .roles) (r .count) o) = there-exists (r .roles) (r .capabilities) (r .count) o (passed 3 rs g .1 .0) in
     let room : r .count < 256 = ltb→lt _ _ (passed 12 rs g .0) in
     let fits : Below (claims c) (termsOf r o) = below→ _ _ (passed 11 rs g .0) in
     let own : OwnKept (r .enrolled) c =
@@ -242,5 +242,5 @@ create-origins r user o a b d first last uses creations hops hours places device
     cases (inr h) =
         ap (λ (x : Capability). x .origin)
         (getD-set-other (counted (r .capabilities) o) (r .count) i c blankCapability (λ e. omega arith)
-        ∙ counted-at (r .capabilities) o i (o-falls′ o (passed 3 ((createRuling r user o a b d c) .guards) g .1 .0)))
+        ∙ counted-at (r .capabilities) o i (o-falls′ o (there-exists (r .roles) (r .capabilities) (r .count) o (passed 3 ((createRuling r user o a b d c) .guards) g .1 .0))))
         ∙ sym (ap (λ (b : Bool). cond b o (originAt (r .capabilities) i)) (T→false (eqb (r .count) i) (not-T (eqb (r .count) i) (λ t. omega (arith, eqb→eq (r .count) i t)))))

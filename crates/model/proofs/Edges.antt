@@ -58,8 +58,8 @@ answers-quick r [] k = refl
 answers-quick r (c ∷ cs) k =
     ap₂
     (λ (a : Outcome) (l : List Outcome). a ∷ l)
-    (ap (λ (q : Effect). q .answer) (step-settled r c (kept← r k)))
-    (answers-quick ((step r c) .after) cs (step-keeps r c k) ∙ ap (λ (q : Effect). quick (q .after) cs) (step-settled r c (kept← r k)))
+    (ap (λ (q : Effect Register). q .answer) (step-settled r c (kept← r k)))
+    (answers-quick ((step r c) .after) cs (step-keeps r c k) ∙ ap (λ (q : Effect Register). quick (q .after) cs) (step-settled r c (kept← r k)))
 
 computed : {n : ℕ} {cs : List Call} {out : List Outcome} → drop n (quick fresh cs) ≡ out → Answered n cs out
 computed {n} {cs} e = record { answered = ap (drop n) (answers-quick fresh cs (kept→ fresh fresh-formed)) ∙ e }

@@ -68,13 +68,13 @@ accepted-origins r (close s) derived k g h i l = h i l
 accepted-origins r (same m n) derived k g h i l = h i l
 
 -- an effect that is settled shows what follows, if the accepted one does
-settle-shows : (e : Event) (r : Register) (gs : List Guard) (v : ℕ) (s : Register) (derived : ℕ → Origin) (q : Effect) → Settled r gs v s q
+settle-shows : (e : Event) (r : Register) (gs : List Guard) (v : ℕ) (s : Register) (derived : ℕ → Origin) (q : Effect Register) → Settled r gs v s q
     → ((n : ℕ) → derivedNext e (refused n) derived ≡ derived)
     → Shows r derived → (Clear gs → Shows s (derivedNext e (value v) derived)) → Shows (q .after) (derivedNext e (q .answer) derived)
 settle-shows e r gs v s derived q (accepted g p) idle h f =
-    subst (λ (x : Effect). Shows (x .after) (derivedNext e (x .answer) derived)) (sym p) (f g)
+    subst (λ (x : Effect Register). Shows (x .after) (derivedNext e (x .answer) derived)) (sym p) (f g)
 settle-shows e r gs v s derived q (declined n p) idle h f =
-    subst (λ (x : Effect). Shows (x .after) (derivedNext e (x .answer) derived)) (sym p)
+    subst (λ (x : Effect Register). Shows (x .after) (derivedNext e (x .answer) derived)) (sym p)
     (subst (λ (d : ℕ → Origin). Shows r d) (sym (idle n)) h)
 
 perform-shows : (r : Register) (e : Event) (derived : ℕ → Origin) → Kept r → Shows r derived

@@ -10,16 +10,16 @@ use Rattle.model.specs.declared.Origin.the-variants.{Role as ofRole, Cap
 use Rattle.model.specs.declared.Session.{Session}
 use Rattle.model.specs.declared.Register.{Register}
 use Rattle.masks.proofs.Truth.{each←}
-use Rattle.model.specs.State.{terms, claims, authority, originAt, blankSession, exists}
+use Rattle.model.specs.State.{mayUse, terms, claims, authority, originAt, blankSession, exists}
 use Rattle.model.specs.Rules.{sessionKeeps, sessionTests, sessionBlank}
 use Rattle.model.specs.Invariant.{Below}
 use Rattle.model.specs.Setters.{withUses, withCapabilities, withSessions}
-use Rattle.model.specs.Rulings.{capability, termsOf}
-use Rattle.model.specs.Sessions.{openRuling, mayUse, used, checkRuling, closeRuling, newSession}
+use Rattle.model.specs.Rulings.{partyOf, capability, termsOf}
+use Rattle.model.specs.Sessions.{openRuling, used, checkRuling, closeRuling, newSession}
 use Rattle.model.proofs.Settling.{Clear, passed}
 use Rattle.model.proofs.Kept.{OwnKept, Kept}
 use Rattle.model.proofs.Places.{session-set}
-use Rattle.model.proofs.Tree.{rooted}
+use Rattle.model.proofs.Tree.{there-exists, rooted}
 use Rattle.model.proofs.Frames.{framed, grows-refl}
 use Rattle.model.proofs.Keeping.{put-keeps, put-origins}
 
@@ -38,7 +38,7 @@ pub check-keeps : (r : Register) (s p : ℕ) → Kept r → Clear ((checkRuling 
 unfolding checkRuling
 check-keeps r s p k g = k
 
-used-keeps : (r : Register) (o : Origin) → Kept r → T (exists (r .roles) (r .count) o) → T (mayUse (r .capabilities) o) → Kept (withCapabilities r (used (r .capabilities) o))
+used-keeps : (r : Register) (o : Origin) → Kept r → T (exists (r .roles) (r .count) o) → T (mayUse (partyOf r o)) → Kept (withCapabilities r (used (r .capabilities) o))
 unfolding exists terms authority
 used-keeps r (ofRole j) k h u = k
 used-keeps r (ofCapability n) k h u =
@@ -56,7 +56,7 @@ unfolding openRuling sessionKeeps
 open-keeps r s user o a b c k g =
     let x : Session = newSession user o a b c in
     let gs = (openRuling r s user o a b c) .guards in
-    let exists-o : T (exists (r .roles) (r .count) o) = passed 3 gs g .1 .0 in
+    let exists-o : T (exists (r .roles) (r .count) o) = there-exists (r .roles) (r .capabilities) (r .count) o (passed 3 gs g .1 .0) in
     used-keeps (withSessions r (set (r .sessions) s x)) o
     (record {
       clock = k .clock;
@@ -90,4 +90,4 @@ used-origins r (ofCapability n) k h i = put-origins r n (withUses (capability r 
 
 pub open-origins : (r : Register) (s user : ℕ) (o : Origin) (a b c : ℕ) → Kept r → Clear ((openRuling r s user o a b c) .guards) → (i : ℕ) → originAt ((openRuling r s user o a b c) .after .capabilities) i ≡ originAt (r .capabilities) i
 unfolding openRuling
-open-origins r s user o a b c k g = used-origins r o k (passed 3 ((openRuling r s user o a b c) .guards) g .1 .0)
+open-origins r s user o a b c k g = used-origins r o k (there-exists (r .roles) (r .capabilities) (r .count) o (passed 3 ((openRuling r s user o a b c) .guards) g .1 .0))

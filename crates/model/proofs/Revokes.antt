@@ -5,7 +5,7 @@ use mathlib.Core.Bool.{Bool, true, false, cond, not, _&&_, _||_}
 use mathlib.Core.List.{List, [], _∷_}
 use Prim.Native.Nat.{ℕ, _<_}
 use native.Mathlib.Omega.{arith}
-use lib.Dec.{T, T-not, leb, ltb→lt}
+use lib.Dec.{T, T-not, ltb→lt}
 use Rattle.masks.specs.Masks.{has}
 use Rattle.masks.specs.Tests.{each, countBelow, mapFrom}
 use Rattle.masks.proofs.Truth.{or-l, or-r, or-cases, T→true, true→T}
@@ -14,11 +14,11 @@ use Rattle.model.specs.declared.Origin.{Origin}
 use Rattle.model.specs.declared.Origin.the-variants.{Role as ofRole, Capability as ofCapability}
 use Rattle.model.specs.declared.Capability.{Capability}
 use Rattle.model.specs.declared.Register.{Register}
-use Rattle.model.specs.State.{terms, authority, sessionAt, inLife, exists}
+use Rattle.model.specs.State.{theCapability, capabilityTerms, terms, authority, sessionAt, inLife, exists}
 use Rattle.model.specs.Lineage.{Descends, here, inLineage}
 use Rattle.model.specs.Setters.{withRevoked, withCapabilities}
 use Rattle.model.specs.Rulings.{Outcome, value, refused, Effect, Guard, capability, termsOf}
-use Rattle.model.specs.Sessions.{permits, checkRuling}
+use Rattle.model.specs.Sessions.{permitting, permits, checkRuling}
 use Rattle.model.specs.Revocation.{marked, revokeRuling}
 use Rattle.model.specs.Calls.{check, revoke, ruling, step}
 use Rattle.model.specs.Theorem.{asked, next, Yes, Due, OnDue, ChangesCheck, Revokes}
@@ -85,9 +85,7 @@ module _ (r : Register) (derived : ℕ → Origin) (k : Kept r) (shows : Shows r
     unfolding permits terms authority
     cut-yes i user p l =
         ap
-        (λ (c : Capability).
-        each
-        (has (c .holders) user ∷ not (c .revoked) ∷ (leb (c .first) (r .clock) && leb (r .clock) (c .last)) ∷ has (authority (r .roles) c) p ∷ []))
+        (λ (c : Capability). each (permitting (r .clock) (theCapability i c) (capabilityTerms (r .roles) c) user p))
         (mark-at i l)
         ∙ without (has ((capability r i) .holders) user) ((capability r i) .revoked) (inLineage (r .capabilities) n i) (inLife (r .capabilities) (ofCapability i) (r .clock)) (has (authority (r .roles) (capability r i)) p)
       where
@@ -187,15 +185,15 @@ module _ (r : Register) (derived : ℕ → Origin) (k : Kept r) (shows : Shows r
   exact-revoke-holds user n v e = cases (step-cases r (revoke user n) k)
     where
       cases : Settled r ((revokeRuling r user n) .guards) ((revokeRuling r user n) .result) ((revokeRuling r user n) .after) (step r (revoke user n)) → Revokes r (next r (revoke user n)) derived n v
-      cases (declined m q) = value-refused (sym e ∙ ap (λ (x : Effect). x .answer) q)
+      cases (declined m q) = value-refused (sym e ∙ ap (λ (x : Effect Register). x .answer) q)
       cases (accepted g q) =
           let l : n < r .count = ltb→lt _ _ (passed 3 ((revokeRuling r user n) .guards) g .1 .0) in
           subst
           (λ (x : Register). Revokes r x derived n v)
-          (sym (ap (λ (x : Effect). x .after) q))
+          (sym (ap (λ (x : Effect Register). x .after) q))
           (record {
             marks = marks-hold n l;
-            counts = same-value (sym e ∙ ap (λ (x : Effect). x .answer) q) ∙ counts-hold n l;
+            counts = same-value (sym e ∙ ap (λ (x : Effect Register). x .answer) q) ∙ counts-hold n l;
             checks = checks-hold n l;
             keeps-marks = keeps-marks-hold n l;
             marks-only = marks-only-hold n l;

@@ -52,7 +52,7 @@ pub step-cases : (r : Register) (c : Call) → Kept r → Settled r ((ruling r c
 unfolding settled
 step-cases r c k =
     subst
-    (λ (q : Effect). Settled r ((ruling r c) .guards) ((ruling r c) .result) ((ruling r c) .after) q)
+    (λ (q : Effect Register). Settled r ((ruling r c) .guards) ((ruling r c) .result) ((ruling r c) .after) q)
     (sym (step-settled r c (kept← r k)))
     (settle-cases r ((ruling r c) .guards) ((ruling r c) .result) ((ruling r c) .after))
 
@@ -60,14 +60,14 @@ step-cases r c k =
 settle-keeps : (r : Register) (gs : List Guard) (v : ℕ) (s : Register) → Kept r → (Clear gs → Kept s) → Kept ((settle r gs v s) .after)
 settle-keeps r gs v s k f = cases (settle r gs v s) (settle-cases r gs v s)
   where
-    cases : (q : Effect) → Settled r gs v s q → Kept (q .after)
-    cases q (accepted h e) = subst (λ (x : Effect). Kept (x .after)) (sym e) (f h)
-    cases q (declined n e) = subst (λ (x : Effect). Kept (x .after)) (sym e) k
+    cases : (q : Effect Register) → Settled r gs v s q → Kept (q .after)
+    cases q (accepted h e) = subst (λ (x : Effect Register). Kept (x .after)) (sym e) (f h)
+    cases q (declined n e) = subst (λ (x : Effect Register). Kept (x .after)) (sym e) k
 
 pub step-keeps : (r : Register) (c : Call) → Kept r → Kept ((step r c) .after)
 unfolding settled
 step-keeps r c k =
-    subst (λ (q : Effect). Kept (q .after)) (sym (step-settled r c (kept← r k)))
+    subst (λ (q : Effect Register). Kept (q .after)) (sym (step-settled r c (kept← r k)))
     (settle-keeps r ((ruling r c) .guards) ((ruling r c) .result) ((ruling r c) .after) k (accepted-keeps r c k))
 
 -- save leaves the register; an accepted load answers one that keeps the rules

@@ -13,7 +13,7 @@ use Rattle.model.specs.declared.Origin.the-variants.{Role as ofRole, Cap
 use Rattle.model.specs.declared.Role.{Role}
 use Rattle.model.specs.declared.Capability.{Capability}
 use Rattle.masks.specs.Masks.{has, within, joined}
-use Rattle.model.specs.State.{capabilityTerms, Terms, terms, claims, authority, lentAuthority, roleAuthority, roleAt, capabilityAt, blankCapability, originAt, exists}
+use Rattle.model.specs.State.{party, there, capabilityTerms, Terms, terms, claims, authority, lentAuthority, roleAuthority, roleAt, capabilityAt, blankCapability, originAt, exists}
 use Rattle.model.specs.Lineage.{lineage, onward, root, ending, member, inLineage, Descends, here, up, Reaches, last-step, one-step}
 use Rattle.model.specs.Rules.{earlier}
 use Rattle.masks.proofs.Truth.{or-l, or-r, or-cases, T→true}
@@ -21,6 +21,12 @@ use Rattle.masks.proofs.MaskLaws.{within-has, within-refl, within-trans, within
 use Rattle.masks.proofs.JoinLaws.{joined-least, joined-mono}
 use Rattle.model.specs.Invariant.{Below}
 use Rattle.model.proofs.Kept.{CapabilitiesKept}
+
+-- an origin that is there
+pub there-exists : (roles : List Role) (cs : List Capability) (count : ℕ) (o : Origin) → T (there count (party roles cs o)) → T (exists roles count o)
+unfolding exists
+there-exists roles cs count (ofRole k) h = h
+there-exists roles cs count (ofCapability n) h = h
 
 -- ---- terms within terms
 

@@ -5,7 +5,7 @@ use Rattle.model.specs.declared.Origin.{Origin}
 use Rattle.model.specs.declared.Register.{Register}
 use Rattle.model.specs.State.{newCapability}
 use Rattle.model.specs.Rules.{wellFormed}
-use Rattle.model.specs.Rulings.{Effect, Ruling, Guard, _unless_, settle}
+use Rattle.model.specs.Rulings.{Effect, Ruling, Guard, _unless_, settle, ruled}
 use Rattle.model.specs.Administration.{enrolRuling, foundRuling, grantRuling, withdrawRuling, appointRuling, dismissRuling, clockRuling}
 use Rattle.model.specs.Delegation.{createRuling, allowRuling, lendRuling, handRuling}
 use Rattle.model.specs.Sessions.{openRuling, checkRuling, closeRuling}
@@ -32,7 +32,7 @@ pub data Call : Type 0 where
   close : (session : ℕ) → Call
   same : (first second : ℕ) → Call
 
-unfoldable pub ruling : Register → Call → Ruling
+unfoldable pub ruling : Register → Call → Ruling Register
 ruling r (enrol user domain) = enrolRuling r user domain
 ruling r (found k domain hours places devices) = foundRuling r k domain hours places devices
 ruling r (grant k p) = grantRuling r k p
@@ -53,9 +53,9 @@ ruling r (close s) = closeRuling r s
 ruling r (same m n) = sameRuling r m n
 
 -- the call on a register that is known to keep the shelf rules
-unfoldable pub settled : Register → Call → Effect
-settled r c = settle r ((ruling r c) .guards) ((ruling r c) .result) ((ruling r c) .after)
+unfoldable pub settled : Register → Call → Effect Register
+settled r c = ruled r (ruling r c)
 
 -- "The first that applies is answered: 15 (the register handed in breaks a shelf rule), then .."
-unfoldable pub step : Register → Call → Effect
+unfoldable pub step : Register → Call → Effect Register
 step r c = settle r (15 unless (wellFormed r ∷ []) ∷ (ruling r c) .guards) ((ruling r c) .result) ((ruling r c) .after)

@@ -1,5 +1,5 @@
 -- create, allow, lend, hand.
-use mathlib.Core.Bool.{Bool, true}
+use mathlib.Core.Bool.{Bool}
 use mathlib.Core.List.{List, [], _∷_}
 use Prim.Native.Nat.{ℕ, suc}
 use lib.Bits.{bitOr}
@@ -10,99 +10,120 @@ use Rattle.model.specs.declared.Origin.{Origin}
 use Rattle.model.specs.declared.Origin.the-variants.{Role as ofRole, Capability as ofCapability}
 use Rattle.model.specs.declared.Capability.{Capability}
 use Rattle.model.specs.declared.Register.{Register}
-use Rattle.model.specs.State.{Terms, capabilityAt, authority, claims, below, inLife, memberOf, admitted, inContext}
+use Rattle.model.specs.State.{Party, there, hasMember, lives, mayCreate, Terms, capabilityAt, authority, claims, below, admitted, inContext}
 use Rattle.model.specs.Rules.{isUser, isCapability, isOrigin, bits}
 use Rattle.model.specs.Setters.{withPermissions, withLent, withHolders, withCreations, withCapabilities, withCount}
-use Rattle.model.specs.Rulings.{Ruling, _unless_, _when_, enrolled, present, capability, termsOf}
+use Rattle.model.specs.Rulings.{Ruling, into, Guard, _unless_, _when_, capability, partyOf, termsOf}
 
 -- "a pass as origin counts one creation more"
+abbrev pub countedOnce : Capability → Capability
+countedOnce c = withCreations c (suc (c .creations))
+
 abbrev pub counted : List Capability → Origin → List Capability
 counted cs (ofRole k) = cs
-counted cs (ofCapability n) = set cs n (withCreations (capabilityAt cs n) (suc ((capabilityAt cs n) .creations)))
+counted cs (ofCapability n) = set cs n (countedOnce (capabilityAt cs n))
 
--- the origin's creations are not at their limit; a role counts none
-abbrev pub mayCreate : List Capability → Origin → Bool
-mayCreate cs (ofRole k) = true
-mayCreate cs (ofCapability n) = ltb ((capabilityAt cs n) .creations) ((capabilityAt cs n) .«creation_limit»)
+-- create: "2, also for first above last"; c is the new capability
+abbrev pub createRanges : (user : ℕ) → Origin → (hour place device : ℕ) → Capability → List Bool
+createRanges user o hour place device c =
+    isUser user
+    ∷ isOrigin o
+    ∷ inContext hour place device
+    ∷ bits 32 (c .first)
+    ∷ bits 32 (c .last)
+    ∷ bits 16 (c .«use_limit»)
+    ∷ bits 16 (c .«creation_limit»)
+    ∷ bits 16 (c .«hop_limit»)
+    ∷ bits 24 (c .hours)
+    ∷ bits 16 (c .places)
+    ∷ bits 16 (c .devices)
+    ∷ leb (c .first) (c .last)
+    ∷ []
 
 -- "create user, role or pass, its number, hour place device, first last, use creation hop limits, hours places devices."
--- c is the new capability; "6 user not appointed or not a holder, or authority lacks create", which is permission 0
-unfoldable pub createRuling : Register → ℕ → Origin → (hour place device : ℕ) → Capability → Ruling
-createRuling r user o hour place device c =
+-- y is the origin, with the terms t; "6 user not appointed or not a holder, or authority lacks create", which is permission 0
+abbrev pub creating : (clock enrolled count : ℕ) → Party → Terms → (user : ℕ) → Origin → (hour place device : ℕ) → Capability → Ruling Capability
+creating clock enrolled count y t user o hour place device c =
     record {
       guards =
-          2 unless
-          (isUser user
-          ∷ isOrigin o
-          ∷ inContext hour place device
-          ∷ bits 32 (c .first)
-          ∷ bits 32 (c .last)
-          ∷ bits 16 (c .«use_limit»)
-          ∷ bits 16 (c .«creation_limit»)
-          ∷ bits 16 (c .«hop_limit»)
-          ∷ bits 24 (c .hours)
-          ∷ bits 16 (c .places)
-          ∷ bits 16 (c .devices)
-          ∷ leb (c .first) (c .last)
-          ∷ [])
-          ∷ 3 unless (enrolled r user ∷ present r o ∷ [])
-          ∷ 6 unless (memberOf (r .roles) (r .capabilities) o user ∷ has ((termsOf r o) .grants) 0 ∷ [])
-          ∷ 7 when (termsOf r o) .revoked
-          ∷ 8 unless (inLife (r .capabilities) o (r .clock) ∷ [])
-          ∷ 9 unless (admitted (termsOf r o) hour place device ∷ [])
-          ∷ 10 unless (mayCreate (r .capabilities) o ∷ [])
-          ∷ 11 unless (below (claims c) (termsOf r o) ∷ [])
-          ∷ 12 unless (ltb (r .count) 256 ∷ [])
+          2 unless createRanges user o hour place device c
+          ∷ 3 unless (has enrolled user ∷ there count y ∷ [])
+          ∷ 6 unless (hasMember y user ∷ has (t .grants) 0 ∷ [])
+          ∷ 7 when t .revoked
+          ∷ 8 unless (lives y clock ∷ [])
+          ∷ 9 unless (admitted t hour place device ∷ [])
+          ∷ 10 unless (mayCreate y ∷ [])
+          ∷ 11 unless (below (claims c) t ∷ [])
+          ∷ 12 unless (ltb count 256 ∷ [])
           ∷ [];
-      result = r .count;
-      after = withCount r (suc (r .count)) (set (counted (r .capabilities) o) (r .count) c);
+      result = count;
+      after = c;
     }
+
+unfoldable pub createRuling : Register → ℕ → Origin → (hour place device : ℕ) → Capability → Ruling Register
+createRuling r user o hour place device c =
+    into (λ d. withCount r (suc (r .count)) (set (counted (r .capabilities) o) (r .count) d))
+    (creating (r .clock) (r .enrolled) (r .count) (partyOf r o) (termsOf r o) user o hour place device c)
 
 -- the register with capability n put anew
 abbrev pub putting : Register → ℕ → Capability → Register
 putting r n c = withCapabilities r (set (r .capabilities) n c)
 
--- allow and lend alike: `may` is what an origin may give, `own` is what a capability has of it, `put` puts that anew
-abbrev pub givingRuling : Register → (user n mask : ℕ) (may : Terms → ℕ) (own : Capability → ℕ) (put : Capability → ℕ → Capability) → Ruling
-givingRuling r user n mask may own put =
-    let c : Capability = capability r n in
-    let d : Capability = put c (bitOr (own c) mask) in
-    record {
-      guards =
-          2 unless (isUser user ∷ isCapability n ∷ bits 32 mask ∷ [])
-          ∷ 3 unless (enrolled r user ∷ present r (ofCapability n) ∷ [])
-          ∷ 6 unless (eqb (c .creator) user ∷ [])
-          ∷ 7 when c .revoked
-          ∷ 11 unless (within mask (may (termsOf r (c .origin))) ∷ [])
-          ∷ 4 when within mask (own c)
-          ∷ [];
-      result = authority (r .roles) d;
-      after = putting r n d;
-    }
+-- allow and lend alike, over the capability c: `given` is what its origin may give, `had` what c has of it already
+abbrev pub giveGuards : (enrolled count : ℕ) → Capability → (given had user n mask : ℕ) → List Guard
+giveGuards enrolled count c given had user n mask =
+    2 unless (isUser user ∷ isCapability n ∷ bits 32 mask ∷ [])
+    ∷ 3 unless (has enrolled user ∷ ltb n count ∷ [])
+    ∷ 6 unless (eqb (c .creator) user ∷ [])
+    ∷ 7 when c .revoked
+    ∷ 11 unless (within mask given ∷ [])
+    ∷ 4 when within mask had
+    ∷ []
+
+-- d is c with the mask added; "the value is the authority after it"
+abbrev pub giving : (enrolled count : ℕ) → Capability → (given had user n mask : ℕ) → (authority : Capability → ℕ) → Capability → Ruling Capability
+giving enrolled count c given had user n mask authority d =
+    record { guards = giveGuards enrolled count c given had user n mask; result = authority d; after = d }
 
 -- "allow user pass permissions .. 6 user is not the creator; 7; 11 the mask exceeds what the origin may give ..; 4 it adds
--- no bit to the own permissions ... The value is the authority after it."
-unfoldable pub allowRuling : Register → ℕ → ℕ → ℕ → Ruling
-allowRuling r user n mask = givingRuling r user n mask (λ t. t .grants) (λ c. c .permissions) withPermissions
+-- no bit to the own permissions": t is what the origin of c allows
+abbrev pub allowing : (enrolled count : ℕ) → Capability → Terms → (authority : Capability → ℕ) → (user n mask : ℕ) → Ruling Capability
+allowing enrolled count c t authority user n mask =
+    giving enrolled count c (t .grants) (c .permissions) user n mask authority (withPermissions c (bitOr (c .permissions) mask))
 
 -- "lend user pass roles (masks) .. (also for a role not founded); 4 it adds no bit to the .. lent roles."
-unfoldable pub lendRuling : Register → ℕ → ℕ → ℕ → Ruling
-lendRuling r user n mask = givingRuling r user n mask (λ t. t .lendable) (λ c. c .lent) withLent
+abbrev pub lending : (enrolled count : ℕ) → Capability → Terms → (authority : Capability → ℕ) → (user n mask : ℕ) → Ruling Capability
+lending enrolled count c t authority user n mask =
+    giving enrolled count c (t .lendable) (c .lent) user n mask authority (withLent c (bitOr (c .lent) mask))
 
 -- "hand user receiver pass. 2; 3; 6 not the creator; 7; 4 receiver holds it; 10 hops at their limit. The value is the hop
 -- count after it."
-unfoldable pub handRuling : Register → ℕ → ℕ → ℕ → Ruling
-handRuling r user receiver n =
-    let c : Capability = capability r n in
+abbrev pub handing : (enrolled count : ℕ) → Capability → (user receiver n : ℕ) → Ruling Capability
+handing enrolled count c user receiver n =
     record {
       guards =
           2 unless (isUser user ∷ isUser receiver ∷ isCapability n ∷ [])
-          ∷ 3 unless (enrolled r user ∷ enrolled r receiver ∷ present r (ofCapability n) ∷ [])
+          ∷ 3 unless (has enrolled user ∷ has enrolled receiver ∷ ltb n count ∷ [])
           ∷ 6 unless (eqb (c .creator) user ∷ [])
           ∷ 7 when c .revoked
           ∷ 4 when has (c .holders) receiver
           ∷ 10 unless (ltb (c .hops) (c .«hop_limit») ∷ [])
           ∷ [];
       result = suc (c .hops);
-      after = putting r n (withHolders c (including (c .holders) receiver) (suc (c .hops)));
+      after = withHolders c (including (c .holders) receiver) (suc (c .hops));
     }
+
+-- the calls on the register, each over capability n
+
+unfoldable pub allowRuling : Register → ℕ → ℕ → ℕ → Ruling Register
+allowRuling r user n mask =
+    let c : Capability = capability r n in
+    into (putting r n) (allowing (r .enrolled) (r .count) c (termsOf r (c .origin)) (authority (r .roles)) user n mask)
+
+unfoldable pub lendRuling : Register → ℕ → ℕ → ℕ → Ruling Register
+lendRuling r user n mask =
+    let c : Capability = capability r n in
+    into (putting r n) (lending (r .enrolled) (r .count) c (termsOf r (c .origin)) (authority (r .roles)) user n mask)
+
+unfoldable pub handRuling : Register → ℕ → ℕ → ℕ → Ruling Register
+handRuling r user receiver n = into (putting r n) (handing (r .enrolled) (r .count) (capability r n) user receiver n)

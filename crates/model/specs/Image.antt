@@ -107,7 +107,7 @@ decode s =
 -- ---- save, load
 
 -- "save into an area. 16 area too short. The value is the length"
-unfoldable pub saveEffect : Register → ℕ → Effect
+unfoldable pub saveEffect : Register → ℕ → Effect Register
 saveEffect r room =
     settle
     r
@@ -125,5 +125,5 @@ unfoldable pub loads : List ℕ → Bool
 loads s = wellFormed (decode s) && sameBytes (encode (decode s)) s
 
 -- "load an image. 14 only: not exactly the layout below, a number out of range, or a shelf rule broken."
-unfoldable pub loadEffect : Register → List ℕ → Effect
+unfoldable pub loadEffect : Register → List ℕ → Effect Register
 loadEffect r s = settle r (14 unless (loads s ∷ []) ∷ []) 0 (decode s)

@@ -13,11 +13,11 @@ use Rattle.model.specs.Calls.{Call, step}
 use Rattle.model.specs.Lines.{parse, printed}
 
 -- "A line that yields no request gets 1."
-abbrev pub requested : Register → Option Call → Effect
+abbrev pub requested : Register → Option Call → Effect Register
 requested r none = record { answer = refused 1; after = r }
 requested r (some c) = step r c
 
-unfoldable pub lineEffect : Register → List ℕ → Effect
+unfoldable pub lineEffect : Register → List ℕ → Effect Register
 lineEffect r line = requested r (parse line)
 
 -- what follows the last line feed: "So does a last line without a line feed."

@@ -17,7 +17,7 @@ pub data Event : Type 0 where
   save : (room : ℕ) → Event
   load : (image : List ℕ) → Event
 
-unfoldable pub perform : Register → Event → Effect
+unfoldable pub perform : Register → Event → Effect Register
 perform r (call c) = step r c
 perform r (save room) = saveEffect r room
 perform r (load image) = loadEffect r image

@@ -9,12 +9,17 @@ use Rattle.model.specs.declared.Refusal.the-variants.{Malformed, Range, 
 use Rattle.model.specs.declared.Answer.{Answer}
 use Rattle.model.specs.declared.Answer.the-variants.{Value, Refused}
 use Rattle.model.specs.declared.Reply.{Reply}
+use Rattle.model.specs.declared.Register.{Register}
 use Rattle.model.specs.declared.Named.{Named}
 use Rattle.model.specs.declared.Named.the-variants.{Role as nameRole, Capability as nameCapability}
 use Rattle.model.specs.declared.Change.{Change as ChangeBy}
 use Rattle.model.specs.declared.Change.the-variants.{Raise, Lower}
 use Rattle.model.specs.declared.Request.{Request}
-use Rattle.model.specs.declared.Request.the-variants.{Enrol, Found, Grant, Withdraw, Appoint, Dismiss, Clock, Create, Allow, Lend, Hand, Open, Check, Amend, Revoke, Close, Same}
+use Rattle.model.specs.declared.Request.the-variants.{Local, Tree}
+use Rattle.model.specs.declared.LocalRequest.{LocalRequest}
+use Rattle.model.specs.declared.LocalRequest.the-variants.{Enrol, Found, Grant, Appoint, Dismiss, Clock, Create, Allow, Lend, Hand, Open, Check, Close}
+use Rattle.model.specs.declared.TreeRequest.{TreeRequest}
+use Rattle.model.specs.declared.TreeRequest.the-variants.{Withdraw, Amend, Revoke, Same}
 use Rattle.model.specs.declared.Parsed.{Parsed}
 use Rattle.model.specs.declared.Parsed.the-variants.{Line, NoRequest}
 use Rattle.model.specs.Rulings.{Outcome, value, refused, Effect}
@@ -44,7 +49,7 @@ abbrev pub outcomeOf : Answer → Outcome
 outcomeOf (Value v) = value v
 outcomeOf (Refused why) = refused (refusalNumber why)
 
-abbrev pub effectOf : Reply → Effect
+abbrev pub effectOf : Reply → Effect Register
 effectOf reply = record { answer = outcomeOf (reply .answer); after = reply .register }
 
 abbrev pub namedOrigin : Named → Origin
@@ -55,25 +60,31 @@ abbrev pub changeOf : ChangeBy → Change
 changeOf (Raise d) = raise d
 changeOf (Lower d) = lower d
 
-abbrev pub callOf : Request → Call
-callOf (Enrol user domain) = enrol user domain
-callOf (Found role domain hours places devices) = found role domain hours places devices
-callOf (Grant role permission) = grant role permission
-callOf (Withdraw role permission) = withdraw role permission
-callOf (Appoint user role) = appoint user role
-callOf (Dismiss user role) = dismiss user role
-callOf (Clock tick) = clock tick
-callOf (Create user origin at plan) =
+abbrev pub localCall : LocalRequest → Call
+localCall (Enrol user domain) = enrol user domain
+localCall (Found role domain hours places devices) = found role domain hours places devices
+localCall (Grant role permission) = grant role permission
+localCall (Appoint user role) = appoint user role
+localCall (Dismiss user role) = dismiss user role
+localCall (Clock tick) = clock tick
+localCall (Create user origin at plan) =
     create user (namedOrigin origin) (at .hour) (at .place) (at .device) (plan .first) (plan .last) (plan .uses) (plan .creations) (plan .hops) (plan .hours) (plan .places) (plan .devices)
-callOf (Allow user capability permissions) = allow user capability permissions
-callOf (Lend user capability roles) = lend user capability roles
-callOf (Hand user receiver capability) = hand user receiver capability
-callOf (Open session user on at) = opening session user (namedOrigin on) (at .hour) (at .place) (at .device)
-callOf (Check session permission) = check session permission
-callOf (Amend user capability change) = amend user capability (changeOf change)
-callOf (Revoke user capability) = revoke user capability
-callOf (Close session) = close session
-callOf (Same first second) = same first second
+localCall (Allow user capability permissions) = allow user capability permissions
+localCall (Lend user capability roles) = lend user capability roles
+localCall (Hand user receiver capability) = hand user receiver capability
+localCall (Open session user on at) = opening session user (namedOrigin on) (at .hour) (at .place) (at .device)
+localCall (Check session permission) = check session permission
+localCall (Close session) = close session
+
+abbrev pub treeCall : TreeRequest → Call
+treeCall (Withdraw role permission) = withdraw role permission
+treeCall (Amend user capability change) = amend user capability (changeOf change)
+treeCall (Revoke user capability) = revoke user capability
+treeCall (Same first second) = same first second
+
+abbrev pub callOf : Request → Call
+callOf (Local q) = localCall q
+callOf (Tree t) = treeCall t
 
 abbrev pub parsedCall : Parsed → Option Call
 parsedCall (Line request) = some (callOf request)

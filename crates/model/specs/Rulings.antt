@@ -2,23 +2,22 @@
 use mathlib.Core.Bool.{Bool, true, false, not}
 use mathlib.Core.List.{List, [], _∷_}
 use Prim.Native.Nat.{ℕ}
-use Rattle.masks.specs.Masks.{has}
 use Rattle.masks.specs.Tests.{each}
 use Rattle.model.specs.declared.Origin.{Origin}
 use Rattle.model.specs.declared.Role.{Role}
 use Rattle.model.specs.declared.Capability.{Capability}
 use Rattle.model.specs.declared.Register.{Register}
-use Rattle.model.specs.State.{roleAt, capabilityAt, sessionAt, exists, Terms, terms}
+use Rattle.model.specs.State.{roleAt, capabilityAt, sessionAt, Party, party, Terms, terms}
 
 -- "A call answers a value or a refusal. A refusal is its number alone"
 pub data Outcome : Type 0 where
   value : ℕ → Outcome
   refused : ℕ → Outcome
 
--- what a call answers, and the register that it leaves
-pub record Effect : Type 0 where
+-- what a call answers, and what it leaves: a register, or the few elements of one that it names
+pub record Effect (A : Type 0) : Type 0 where
   pub answer : Outcome
-  pub after : Register
+  pub after : A
 
 -- refused with the number n unless all the tests pass, or when the test passes
 infix 68 _unless_ _when_
@@ -34,14 +33,18 @@ abbrev pub number : Guard → ℕ
 number (n unless ts) = n
 number (n when t) = n
 
--- a call's refusals in their order, its value, and the register after it
-pub record Ruling : Type 0 where
+-- a call's refusals in their order, its value, and the register, or the elements, after it
+pub record Ruling (A : Type 0) : Type 0 where
   pub guards : List Guard
   pub result : ℕ
-  pub after : Register
+  pub after : A
+
+-- the ruling on a part of a state, put into the state
+abbrev pub into : {A B : Type 0} → (A → B) → Ruling A → Ruling B
+into f q = record { guards = q .guards; result = q .result; after = f (q .after) }
 
 -- "The first that applies is answered"; refused, the register stays untouched
-unfoldable pub settle : Register → List Guard → ℕ → Register → Effect
+unfoldable pub settle : {A : Type 0} → A → List Guard → ℕ → A → Effect A
 settle r [] v s = record { answer = value v; after = s }
 settle r (q ∷ rest) v s =
     elim (applies q) [
@@ -49,15 +52,10 @@ settle r (q ∷ rest) v s =
       | false ↦ settle r rest v s
     ]
 
--- ---- what the tests of 3 ask, and short names
+abbrev pub ruled : {A : Type 0} → A → Ruling A → Effect A
+ruled r q = settle r (q .guards) (q .result) (q .after)
 
--- "a user .. not there"
-abbrev pub enrolled : Register → ℕ → Bool
-enrolled r user = has (r .enrolled) user
-
--- "a .. role or pass not there"
-abbrev pub present : Register → Origin → Bool
-present r o = exists (r .roles) (r .count) o
+-- ---- short names
 
 -- "a session not open"
 abbrev pub opened : Register → ℕ → Bool
@@ -68,6 +66,9 @@ role r k = roleAt (r .roles) k
 
 abbrev pub capability : Register → ℕ → Capability
 capability r n = capabilityAt (r .capabilities) n
+
+abbrev pub partyOf : Register → Origin → Party
+partyOf r o = party (r .roles) (r .capabilities) o
 
 abbrev pub termsOf : Register → Origin → Terms
 termsOf r o = terms (r .roles) (r .capabilities) o

@@ -84,6 +84,40 @@ unfoldable pub exists : List Role → ℕ → Origin → Bool
 exists roles count (ofRole k) = (roleAt roles k) .founded
 exists roles count (ofCapability n) = ltb n count
 
+-- ---- an origin and what stands there: what a call asks of a role or of a capability, it asks of this
+
+pub data Party : Type 0 where
+  theRole : ℕ → Role → Party
+  theCapability : ℕ → Capability → Party
+
+abbrev pub party : List Role → List Capability → Origin → Party
+party roles cs (ofRole k) = theRole k (roleAt roles k)
+party roles cs (ofCapability n) = theCapability n (capabilityAt cs n)
+
+-- a role is founded, a capability has been created
+abbrev pub there : ℕ → Party → Bool
+there count (theRole k x) = x .founded
+there count (theCapability n c) = ltb n count
+
+-- the user is appointed to the role, or holds the capability
+abbrev pub hasMember : Party → ℕ → Bool
+hasMember (theRole k x) user = has (x .appointed) user
+hasMember (theCapability n c) user = has (c .holders) user
+
+-- "A life includes both its ends."; a role's is the whole time
+abbrev pub lives : Party → ℕ → Bool
+lives (theRole k x) tick = true
+lives (theCapability n c) tick = leb (c .first) tick && leb tick (c .last)
+
+-- uses, and creations, are below their limit; a role counts none
+abbrev pub mayUse : Party → Bool
+mayUse (theRole k x) = true
+mayUse (theCapability n c) = ltb (c .uses) (c .«use_limit»)
+
+abbrev pub mayCreate : Party → Bool
+mayCreate (theRole k x) = true
+mayCreate (theCapability n c) = ltb (c .creations) (c .«creation_limit»)
+
 -- ---- authority
 
 -- "A role's authority is its permissions."
@@ -134,20 +168,16 @@ termsWith p m c =
 abbrev pub mayLend : List Role → ℕ → ℕ
 mayLend roles m = m
 
--- "An origin may give the permissions of its authority, and the roles lent to it .."
-abbrev pub capabilityTerms : List Role → Capability → Terms
-capabilityTerms roles c = termsWith (authority roles c) (mayLend roles (c .lent)) c
-
--- ".. or, where it is a role, just itself."
+-- "An origin may give the permissions of its authority, and the roles lent to it or, where it is a role, just itself."
 -- A role's life "is 0 to 4,294,967,295", its limits "are 65,535"; "a role never is" revoked
-abbrev pub roleTerms : List Role → ℕ → Terms
-roleTerms roles k =
+abbrev pub partyTerms : (granted : ℕ → ℕ) (authority : Capability → ℕ) (mayLend : ℕ → ℕ) → Party → Terms
+partyTerms granted authority mayLend (theRole k x) =
     record {
-      grants = roleAuthority roles k;
-      lendable = mayLend roles (2 ^ k);
-      hours = (roleAt roles k) .hours;
-      places = (roleAt roles k) .places;
-      devices = (roleAt roles k) .devices;
+      grants = granted k;
+      lendable = mayLend (2 ^ k);
+      hours = x .hours;
+      places = x .places;
+      devices = x .devices;
       first = 0;
       last = 4294967295;
       use-limit = 65535;
@@ -155,10 +185,13 @@ roleTerms roles k =
       hop-limit = 65535;
       revoked = false;
     }
+partyTerms granted authority mayLend (theCapability n c) = termsWith (authority c) (mayLend (c .lent)) c
+
+abbrev pub capabilityTerms : List Role → Capability → Terms
+capabilityTerms roles c = termsWith (authority roles c) (mayLend roles (c .lent)) c
 
 unfoldable pub terms : List Role → List Capability → Origin → Terms
-terms roles cs (ofRole k) = roleTerms roles k
-terms roles cs (ofCapability n) = capabilityTerms roles (capabilityAt cs n)
+terms roles cs o = partyTerms (roleAuthority roles) (authority roles) (mayLend roles) (party roles cs o)
 
 -- what a capability claims of its origin: own permissions, lent roles, life, context and limits
 abbrev pub claims : Capability → Terms
@@ -184,12 +217,10 @@ belowTests a b =
 unfoldable pub below : Terms → Terms → Bool
 below a b = each (belowTests a b)
 
--- ---- life, context, members
+-- ---- life, context
 
--- "A life includes both its ends."; a role's is the whole time
 abbrev pub inLife : List Capability → Origin → ℕ → Bool
-inLife cs (ofRole k) tick = true
-inLife cs (ofCapability n) tick = leb ((capabilityAt cs n) .first) tick && leb tick ((capabilityAt cs n) .last)
+inLife cs o tick = lives (party [] cs o) tick
 
 -- "the hour (0 to 23), place and device (0 to 15)"
 unfoldable pub inContext : ℕ → ℕ → ℕ → Bool
@@ -201,8 +232,3 @@ admittedTests t hour place device = has (t .hours) hour ∷ has (t .places) plac
 
 unfoldable pub admitted : Terms → ℕ → ℕ → ℕ → Bool
 admitted t hour place device = each (admittedTests t hour place device)
-
--- the user is appointed to the role, or holds the capability
-abbrev pub memberOf : List Role → List Capability → Origin → ℕ → Bool
-memberOf roles cs (ofRole k) user = has ((roleAt roles k) .appointed) user
-memberOf roles cs (ofCapability n) user = has ((capabilityAt cs n) .holders) user

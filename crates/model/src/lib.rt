@@ -116,12 +116,11 @@ pub struct Plan {
     pub devices: u32,
 }
 
-// The seventeen journal words with their arguments, in the document's order.
-pub enum Request {
+// A request that changes only elements that it names: journal words with their arguments, in the document's order.
+pub enum LocalRequest {
     Enrol(u32, u32),
     Found(u32, u32, u32, u32, u32),
     Grant(u32, u32),
-    Withdraw(u32, u32),
     Appoint(u32, u32),
     Dismiss(u32, u32),
     Clock(u32),
@@ -131,10 +130,21 @@ pub enum Request {
     Hand(u32, u32, u32),
     Open(u32, u32, Named, Context),
     Check(u32, u32),
+    Close(u32),
+}
+
+// A request that reads or changes the whole creation tree.
+pub enum TreeRequest {
+    Withdraw(u32, u32),
     Amend(u32, u32, Change),
     Revoke(u32, u32),
-    Close(u32),
     Same(u32, u32),
+}
+
+// The seventeen journal words with their arguments.
+pub enum Request {
+    Local(LocalRequest),
+    Tree(TreeRequest),
 }
 
 // The parser's answer: a request, or none.

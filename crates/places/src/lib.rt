@@ -1,12 +1,11 @@
 // Where the elements stand that a request names: numbers from the request, or followed from what was read.
 ghost use mathlib.Core.Path.{_≡_};
 ghost use Prim.Native.Nat.{_%_, _<_};
-ghost use Rattle.places.specs.Requests.{taskOf, namesWith, roleIn, capabilityIn, namesOf, roleHeld, capabilityHeld, capabilityPlace, rolePlace, parentPlace, seenSlots};
+ghost use Rattle.places.specs.Requests.{namesWith, roleIn, capabilityIn, namesOf, roleHeld, capabilityHeld, capabilityPlace, rolePlace, parentPlace, seenSlots};
 use model::Capability;
-use model::Change;
+use model::LocalRequest;
 use model::Named;
 use model::Origin;
-use model::Request;
 use model::Role;
 use model::Session;
 use slots::Slots;
@@ -28,48 +27,6 @@ pub struct Names {
     pub capability: u32,
     pub session: u32,
     pub follow: Follow,
-}
-
-// A request that reads or changes the whole creation tree.
-pub enum TreeCall {
-    Withdraw(u32, u32),
-    Amend(u32, u32, Change),
-    Revoke(u32, u32),
-    Same(u32, u32),
-}
-
-// A request that changes only elements that it names, or one over the whole tree.
-pub enum Task {
-    One(Request),
-    Tree(TreeCall),
-}
-
-pub fn task_of(q: Request) -> Task
-    ensures { λ z. ⌜ z ≡ taskOf q ⌝ }
-{
-    match q {
-        Request::Withdraw(role, permission) => Task::Tree(TreeCall::Withdraw(role, permission)),
-        Request::Amend(user, capability, change) => Task::Tree(TreeCall::Amend(
-            user,
-            capability,
-            change,
-        )),
-        Request::Revoke(user, capability) => Task::Tree(TreeCall::Revoke(user, capability)),
-        Request::Same(m, n) => Task::Tree(TreeCall::Same(m, n)),
-        Request::Enrol(_, _) => Task::One(q),
-        Request::Found(_, _, _, _, _) => Task::One(q),
-        Request::Grant(_, _) => Task::One(q),
-        Request::Appoint(_, _) => Task::One(q),
-        Request::Dismiss(_, _) => Task::One(q),
-        Request::Clock(_) => Task::One(q),
-        Request::Create(_, _, _, _) => Task::One(q),
-        Request::Allow(_, _, _) => Task::One(q),
-        Request::Lend(_, _, _) => Task::One(q),
-        Request::Hand(_, _, _) => Task::One(q),
-        Request::Open(_, _, _, _) => Task::One(q),
-        Request::Check(_, _) => Task::One(q),
-        Request::Close(_) => Task::One(q),
-    }
 }
 
 pub fn named_by(
@@ -111,18 +68,17 @@ pub fn capability_in(o: Named) -> u32
     }
 }
 
-pub fn names_of(q: Request) -> Names
+pub fn names_of(q: LocalRequest) -> Names
     ensures { λ z. ⌜ z ≡ namesOf q ⌝ }
 {
     match q {
-        Request::Enrol(user, _) => named_by(user, 0, 0, 0, 0, Follow::Nothing),
-        Request::Found(role, _, _, _, _) => named_by(0, role, 0, 0, 0, Follow::Nothing),
-        Request::Grant(role, _) => named_by(0, role, 0, 0, 0, Follow::Nothing),
-        Request::Withdraw(_, _) => named_by(0, 0, 0, 0, 0, Follow::Nothing),
-        Request::Appoint(user, role) => named_by(user, role, 0, 0, 0, Follow::Nothing),
-        Request::Dismiss(user, role) => named_by(user, role, 0, 0, 0, Follow::Nothing),
-        Request::Clock(_) => named_by(0, 0, 0, 0, 0, Follow::Nothing),
-        Request::Create(_, o, _, _) => named_by(
+        LocalRequest::Enrol(user, _) => named_by(user, 0, 0, 0, 0, Follow::Nothing),
+        LocalRequest::Found(role, _, _, _, _) => named_by(0, role, 0, 0, 0, Follow::Nothing),
+        LocalRequest::Grant(role, _) => named_by(0, role, 0, 0, 0, Follow::Nothing),
+        LocalRequest::Appoint(user, role) => named_by(user, role, 0, 0, 0, Follow::Nothing),
+        LocalRequest::Dismiss(user, role) => named_by(user, role, 0, 0, 0, Follow::Nothing),
+        LocalRequest::Clock(_) => named_by(0, 0, 0, 0, 0, Follow::Nothing),
+        LocalRequest::Create(_, o, _, _) => named_by(
             0,
             role_in(o),
             capability_in(o),
@@ -130,10 +86,10 @@ pub fn names_of(q: Request) -> Names
             0,
             Follow::Count,
         ),
-        Request::Allow(_, n, _) => named_by(0, 0, 0, n, 0, Follow::Origin),
-        Request::Lend(_, n, _) => named_by(0, 0, 0, n, 0, Follow::Origin),
-        Request::Hand(_, _, n) => named_by(0, 0, 0, n, 0, Follow::Nothing),
-        Request::Open(session, _, o, _) => named_by(
+        LocalRequest::Allow(_, n, _) => named_by(0, 0, 0, n, 0, Follow::Origin),
+        LocalRequest::Lend(_, n, _) => named_by(0, 0, 0, n, 0, Follow::Origin),
+        LocalRequest::Hand(_, _, n) => named_by(0, 0, 0, n, 0, Follow::Nothing),
+        LocalRequest::Open(session, _, o, _) => named_by(
             0,
             role_in(o),
             0,
@@ -141,11 +97,8 @@ pub fn names_of(q: Request) -> Names
             session,
             Follow::Nothing,
         ),
-        Request::Check(session, _) => named_by(0, 0, 0, 0, session, Follow::Session),
-        Request::Amend(_, _, _) => named_by(0, 0, 0, 0, 0, Follow::Nothing),
-        Request::Revoke(_, _) => named_by(0, 0, 0, 0, 0, Follow::Nothing),
-        Request::Close(session) => named_by(0, 0, 0, 0, session, Follow::Nothing),
-        Request::Same(_, _) => named_by(0, 0, 0, 0, 0, Follow::Nothing),
+        LocalRequest::Check(session, _) => named_by(0, 0, 0, 0, session, Follow::Session),
+        LocalRequest::Close(session) => named_by(0, 0, 0, 0, session, Follow::Nothing),
     }
 }
 

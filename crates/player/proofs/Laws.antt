@@ -26,7 +26,7 @@ use Rattle.model.specs.Calls.{Call, check, settled, step}
 use Rattle.model.specs.Requests.{callOf, parsedCall}
 use Rattle.model.specs.Lines.{parse, printed}
 use Rattle.model.specs.Journal.{requested, lineEffect, unended, transcript, journal}
-use Rattle.model.proofs.Settling.{step-settled}
+use Rattle.model.proofs.Settling.{step-settled, broken}
 use Rattle.model.proofs.Rules.{kept→, kept←}
 use Rattle.model.proofs.Running.{step-keeps}
 use Rattle.text.specs.Parts.{before}
@@ -35,10 +35,9 @@ use Rattle.answers.specs.Writing.{written, filled}
 use Rattle.answers.proofs.WriteLaws.{written-room, filled-room}
 use Rattle.slots.proofs.TermLaws.{Column}
 use Rattle.places.specs.Requests.{roleHeld, capabilityHeld}
-use Rattle.sessions.specs.Origins.{OnPlaced}
+use Rattle.slots.specs.Terms.{OnPlaced}
 use Rattle.sessions.specs.Sessions.{checkAnswer}
 use Rattle.sessions.proofs.Commits.{check-answered}
-use Rattle.dispatch.proofs.Tasks.{broken}
 use Rattle.player.specs.Play.{journalLength, journalBuffer}
 
 -- ---- one line
@@ -57,7 +56,7 @@ pub line-says : (line : List ℕ) (q : Parsed) → parsedCall q ≡ parse line �
 line-says line q e p g = sym e ∙ ap parsedCall g
 
 -- the call of a line, settled on a register that keeps the rules
-pub line-done : (r : Register) (line : List ℕ) (c : Call) (z : Effect) → parse line ≡ some c → T (wellFormed r) → z ≡ settled r c → z ≡ lineEffect r line
+pub line-done : (r : Register) (line : List ℕ) (c : Call) (z : Effect Register) → parse line ≡ some c → T (wellFormed r) → z ≡ settled r c → z ≡ lineEffect r line
 unfolding lineEffect
 line-done r line c z e k h = h ∙ sym (step-settled r c k) ∙ ap (requested r) (sym e)
 
@@ -79,7 +78,7 @@ check-done r permissions n q x y o k column a b e =
 
 step-formed : (r : Register) (c : Call) (b : Bool) → wellFormed r ≡ b → wellFormed ((step r c) .after) ≡ b
 step-formed r c true e = T→true (wellFormed ((step r c) .after)) (kept← ((step r c) .after) (step-keeps r c (kept→ r (true→T (wellFormed r) e))))
-step-formed r c false e = ap (λ (z : Effect). wellFormed (z .after)) (sym (broken r c e)) ∙ e
+step-formed r c false e = ap (λ (z : Effect Register). wellFormed (z .after)) (sym (broken r c e)) ∙ e
 
 pub line-formed : (r : Register) (line : List ℕ) → wellFormed ((lineEffect r line) .after) ≡ wellFormed r
 unfolding lineEffect
@@ -89,8 +88,8 @@ line-formed r line = cases (parse line)
     cases none = refl
     cases (some c) = step-formed r c (wellFormed r) refl
 
-pub formed-after : (r : Register) (line : List ℕ) (z : Effect) {formed : Bool} → formed ≡ wellFormed r → z ≡ lineEffect r line → formed ≡ wellFormed (z .after)
-formed-after r line z h e = h ∙ sym (line-formed r line) ∙ ap (λ (y : Effect). wellFormed (y .after)) (sym e)
+pub formed-after : (r : Register) (line : List ℕ) (z : Effect Register) {formed : Bool} → formed ≡ wellFormed r → z ≡ lineEffect r line → formed ≡ wellFormed (z .after)
+formed-after r line z h e = h ∙ sym (line-formed r line) ∙ ap (λ (y : Effect Register). wellFormed (y .after)) (sym e)
 
 -- ---- printing into the part of the output that follows what is printed
 
@@ -141,7 +140,7 @@ module _ (start : Register) (input out₀ : List ℕ) (r : Register) (out : List
   left : transcript r (split 10 (drop at input)) ≡ printed o ++ transcript next (split 10 (drop (at + n + 1) input))
   left =
       transcript-line r input at n line more
-      ∙ ap (λ (z : Effect). printed (z .answer) ++ transcript (z .after) (split 10 (drop (at + n + 1) input))) (sym effect)
+      ∙ ap (λ (z : Effect Register). printed (z .answer) ++ transcript (z .after) (split 10 (drop (at + n + 1) input))) (sym effect)
 
   sum : length (transcript r (split 10 (drop at input))) ≡ length (printed o) + length (transcript next (split 10 (drop (at + n + 1) input)))
   sum = ap length left ∙ length-append (printed o) _

@@ -4,15 +4,13 @@ use mathlib.Core.Bool.{Bool, true}
 use mathlib.Core.List.{List}
 use mathlib.Core.Option.{some}
 use Prim.Native.Nat.{ℕ}
-use lib.Dec.{T}
 use Rattle.model.specs.declared.Register.{Register}
 use Rattle.model.specs.Rules.{wellFormed}
 use Rattle.model.specs.Rulings.{refused}
 use Rattle.model.specs.Calls.{check}
 use Rattle.model.specs.Lines.{parse}
-use Rattle.model.specs.Requests.{refusalNumber, callOf}
+use Rattle.model.specs.Requests.{refusalNumber, localCall, treeCall}
 use Rattle.model.specs.Journal.{lineEffect}
-use Rattle.dispatch.specs.Decide.{isOne, treeCall}
 use Rattle.player.specs.declared.step.Step.{Step}
 use Rattle.player.specs.declared.step.Step.the-variants.{Refuse, Check, One, Tree}
 
@@ -20,5 +18,5 @@ use Rattle.player.specs.declared.step.Step.the-variants.{Refuse, Check, 
 abbrev pub Fits : Bool → List ℕ → Step → Type 0
 Fits formed line (Refuse why) = (r : Register) → wellFormed r ≡ formed → record { answer = refused (refusalNumber why); after = r } ≡ lineEffect r line
 Fits formed line (Check s q) = (formed ≡ true) × (parse line ≡ some (check s q))
-Fits formed line (One q) = T (isOne q) × (formed ≡ true) × (parse line ≡ some (callOf q))
+Fits formed line (One q) = (formed ≡ true) × (parse line ≡ some (localCall q))
 Fits formed line (Tree t) = (formed ≡ true) × (parse line ≡ some (treeCall t))

@@ -1,19 +1,18 @@
 // What is to be done for a line: it is refused whatever the register holds; it is a check, which changes nothing; it changes only
 // elements that it names; or it is a call over the whole tree.
 ghost use Rattle.player.specs.Steps.{Fits};
+use model::LocalRequest;
 use model::Parsed;
 use model::Refusal;
 use model::Request;
-use places::Task;
-use places::TreeCall;
-use places::task_of;
+use model::TreeRequest;
 use requests::parse;
 
 pub enum Step {
     Refuse(Refusal),
     Check(u32, u32),
-    One(Request),
-    Tree(TreeCall),
+    One(LocalRequest),
+    Tree(TreeRequest),
 }
 
 // `formed` is what the test of the rules says of the register.
@@ -27,12 +26,13 @@ pub fn step_of(formed: bool, line: &[u8]) -> Step
     if !formed {
         return Step::Refuse(Refusal::Broken);
     }
-    if let Request::Check(session, permission) = q {
-        return Step::Check(session, permission);
-    }
-    let task = task_of(q);
-    match task {
-        Task::One(one) => Step::One(one),
-        Task::Tree(t) => Step::Tree(t),
+    match q {
+        Request::Local(one) => {
+            if let LocalRequest::Check(session, permission) = one {
+                return Step::Check(session, permission);
+            }
+            Step::One(one)
+        }
+        Request::Tree(t) => Step::Tree(t),
     }
 }

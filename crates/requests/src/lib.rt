@@ -13,9 +13,11 @@ use crate::words::Two;
 use crate::words::Word;
 use crate::words::word_of;
 use model::Context;
+use model::LocalRequest;
 use model::Parsed;
 use model::Plan;
 use model::Request;
+use model::TreeRequest;
 use text::arguments::Changing;
 use text::arguments::last_change;
 use text::arguments::read_target;
@@ -32,8 +34,8 @@ fn one_of(w: One, a: u32) -> Request
     ensures { λ r. ⌜ callOf r ≡ oneCall w a ⌝ }
 {
     match w {
-        One::Clock => Request::Clock(a),
-        One::Close => Request::Close(a),
+        One::Clock => Request::Local(LocalRequest::Clock(a)),
+        One::Close => Request::Local(LocalRequest::Close(a)),
     }
 }
 
@@ -41,14 +43,14 @@ fn two_of(w: Two, a: u32, b: u32) -> Request
     ensures { λ r. ⌜ callOf r ≡ twoCall w a b ⌝ }
 {
     match w {
-        Two::Enrol => Request::Enrol(a, b),
-        Two::Grant => Request::Grant(a, b),
-        Two::Withdraw => Request::Withdraw(a, b),
-        Two::Appoint => Request::Appoint(a, b),
-        Two::Dismiss => Request::Dismiss(a, b),
-        Two::Check => Request::Check(a, b),
-        Two::Revoke => Request::Revoke(a, b),
-        Two::Same => Request::Same(a, b),
+        Two::Enrol => Request::Local(LocalRequest::Enrol(a, b)),
+        Two::Grant => Request::Local(LocalRequest::Grant(a, b)),
+        Two::Withdraw => Request::Tree(TreeRequest::Withdraw(a, b)),
+        Two::Appoint => Request::Local(LocalRequest::Appoint(a, b)),
+        Two::Dismiss => Request::Local(LocalRequest::Dismiss(a, b)),
+        Two::Check => Request::Local(LocalRequest::Check(a, b)),
+        Two::Revoke => Request::Tree(TreeRequest::Revoke(a, b)),
+        Two::Same => Request::Tree(TreeRequest::Same(a, b)),
     }
 }
 
@@ -56,9 +58,9 @@ fn three_of(w: Three, a: u32, b: u32, c: u32) -> Request
     ensures { λ r. ⌜ callOf r ≡ threeCall w a b c ⌝ }
 {
     match w {
-        Three::Allow => Request::Allow(a, b, c),
-        Three::Lend => Request::Lend(a, b, c),
-        Three::Hand => Request::Hand(a, b, c),
+        Three::Allow => Request::Local(LocalRequest::Allow(a, b, c)),
+        Three::Lend => Request::Local(LocalRequest::Lend(a, b, c)),
+        Three::Hand => Request::Local(LocalRequest::Hand(a, b, c)),
     }
 }
 
@@ -82,7 +84,7 @@ fn plain_of(w: Plain, v: [u32; 12]) -> Request
         Plain::Single(one) => one_of(one, v[0]),
         Plain::Pair(two) => two_of(two, v[0], v[1]),
         Plain::Triple(three) => three_of(three, v[0], v[1], v[2]),
-        Plain::Found => Request::Found(v[0], v[1], v[2], v[3], v[4]),
+        Plain::Found => Request::Local(LocalRequest::Found(v[0], v[1], v[2], v[3], v[4])),
     }
 }
 
@@ -142,7 +144,7 @@ fn create_request(s: &[u8]) -> Parsed
     let at = context_of(v);
     let plan = plan_of(v);
     let on = target.on;
-    Parsed::Line(Request::Create(user, on, at, plan))
+    Parsed::Line(Request::Local(LocalRequest::Create(user, on, at, plan)))
 }
 
 // The arguments of open.
@@ -161,7 +163,7 @@ fn open_request(s: &[u8]) -> Parsed
     let v = target.v;
     let at = context_of(v);
     let on = target.on;
-    Parsed::Line(Request::Open(session, user, on, at))
+    Parsed::Line(Request::Local(LocalRequest::Open(session, user, on, at)))
 }
 
 // The arguments of amend.
@@ -176,7 +178,7 @@ fn amend_request(s: &[u8]) -> Parsed
     let Changing::By(change) = changing else {
         return Parsed::NoRequest;
     };
-    Parsed::Line(Request::Amend(user, capability, change))
+    Parsed::Line(Request::Tree(TreeRequest::Amend(user, capability, change)))
 }
 
 // The request of a word, by what follows it in its line.

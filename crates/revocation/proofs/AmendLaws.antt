@@ -1,23 +1,23 @@
 -- What amend's core does is the call of the model.
 use mathlib.Core.Path.{_≡_, refl, ap, ap₂, _∙_}
-use mathlib.Core.Bool.{Bool}
+use mathlib.Core.Bool.{Bool, true}
 use mathlib.Core.List.{List, [], _∷_}
 use Prim.Native.Nat.{ℕ, _%_, _≤_, _<_}
 use native.Mathlib.Nat.{mod-eq-of-lt}
 use native.Mathlib.Omega.{arith}
-use lib.Dec.{T, eqb, leb, ltb, ltb→lt, leb→le}
-use Rattle.masks.specs.Masks.{has}
+use lib.Dec.{T, ltb→lt, leb→le}
+use lib.ListN.{drop}
 use Rattle.masks.specs.Tests.{rising}
 use Rattle.model.specs.declared.Origin.{Origin}
 use Rattle.model.specs.declared.Origin.the-variants.{Role as ofRole, Capability as ofCapability}
 use Rattle.model.specs.declared.Refusal.{Refusal}
 use Rattle.model.specs.declared.Register.{Register}
-use Rattle.model.specs.State.{blankCapability, capabilityAt, originAt, exists, terms}
+use Rattle.model.specs.State.{blankCapability, capabilityAt, originAt, terms}
 use Rattle.model.specs.Setters.{withCapabilities}
 use Rattle.model.specs.Sweeps.{originLimit, limitOne}
 use Rattle.model.specs.Rules.{wellFormed, isUser, isCapability}
-use Rattle.model.specs.Rulings.{value, refused, Guard, _unless_, _when_, settle}
-use Rattle.model.specs.Revocation.{Change, raise, lower, isZero, isChange, fallsBelow, changed, amendRuling}
+use Rattle.model.specs.Rulings.{refused, Guard, _unless_, settle}
+use Rattle.model.specs.Revocation.{Change, raise, lower, isZero, isChange, fallsBelow, changed, amendGuards, amendRuling}
 use Rattle.model.specs.Calls.{amend, ruling, settled}
 use Rattle.model.specs.Requests.{refusalNumber}
 use Rattle.model.proofs.Rules.{kept→, formed→}
@@ -28,14 +28,15 @@ use Rattle.slots.specs.declared.checks.Check.{Check}
 use Rattle.slots.specs.declared.checks.Check.the-variants.{Pass, Refuse}
 use Rattle.slots.specs.Checks.{checked, firstNumber}
 use Rattle.slots.proofs.CheckLaws.{in-range}
-use Rattle.slots.proofs.SlotLaws.{settle-after}
+use Rattle.model.proofs.Settling.{settle-after}
 use Rattle.sweeps.specs.declared.Sweep.the-variants.{Limit}
 use Rattle.sweeps.specs.Sweeping.{parentPlace, parentLimit, sweptBy}
 use Rattle.sweeps.proofs.SweepLaws.{parent-limit}
 use Rattle.revocation.specs.declared.amending.Amendment.{Amendment}
 use Rattle.revocation.specs.Orders.{amendmentOf}
-use Rattle.revocation.specs.Guards.{amendGuards}
-use Rattle.slots.proofs.SettleLaws.{settle-past, refuse-settled, pass-settled}
+use Rattle.revocation.specs.Guards.{amendmentGuards}
+use Rattle.model.proofs.Settling.{settle-past}
+use Rattle.slots.proofs.CheckLaws.{refuse-ruled, pass-ruled}
 
 -- ---- what a change asks for
 
@@ -61,20 +62,13 @@ module _
     (r : Register) (formed : T (wellFormed r)) (user n : ℕ) (change : Change) (up bound : ℕ) (at-up : up ≡ parentPlace (originAt (r .capabilities) (n % 256)))
     (bounded : bound ≡ parentLimit (originAt (r .capabilities) (n % 256)) (capabilityAt (r .capabilities) up))
     (a : Amendment) (asked : a ≡ amendmentOf change ((capabilityAt (r .capabilities) (n % 256)) .«use_limit»))
-    (k : Check) (checks : checked k ≡ firstNumber (amendGuards (r .enrolled) (r .count) user n (capabilityAt (r .capabilities) (n % 256)) a bound)) where
+    (k : Check) (checks : checked k ≡ firstNumber (amendmentGuards (r .enrolled) (r .count) user n (capabilityAt (r .capabilities) (n % 256)) a bound)) where
   abbrev limit : ℕ
   limit = changed change ((capabilityAt (r .capabilities) n) .«use_limit»)
 
   -- the guards after the first, where capability j is read
   abbrev rest : ℕ → Bool → Bool → ℕ → ℕ → List Guard
-  rest j zero below l b =
-      3 unless (has (r .enrolled) user ∷ ltb n (r .count) ∷ [])
-      ∷ 6 unless (eqb ((capabilityAt (r .capabilities) j) .creator) user ∷ [])
-      ∷ 7 when (capabilityAt (r .capabilities) j) .revoked
-      ∷ 4 when zero
-      ∷ 10 when below
-      ∷ 11 unless (leb l b ∷ [])
-      ∷ []
+  rest j zero below l b = drop 1 (amendGuards (r .enrolled) (r .count) (capabilityAt (r .capabilities) j) user n true zero below l b)
 
   abbrev asked-rest : List Guard
   asked-rest = rest n (isZero change) (fallsBelow change ((capabilityAt (r .capabilities) n) .«use_limit»)) limit ((terms (r .roles) (r .capabilities) (originAt (r .capabilities) n)) .use-limit)
@@ -98,8 +92,8 @@ module _
       ∙ ap (λ (j : ℕ). changed change ((capabilityAt (r .capabilities) j) .«use_limit»)) e
 
   amend-guards : (v : ℕ) (s : Register) → (n % 256 ≡ n → T (isChange change) → Clear asked-rest → (v ≡ (amendRuling r user n change) .result) × (s ≡ (amendRuling r user n change) .after))
-      → settle r (amendGuards (r .enrolled) (r .count) user n (capabilityAt (r .capabilities) (n % 256)) a bound) v s ≡ settled r (amend user n change)
-  unfolding settled ruling amendRuling exists
+      → settle r (amendmentGuards (r .enrolled) (r .count) user n (capabilityAt (r .capabilities) (n % 256)) a bound) v s ≡ settled r (amend user n change)
+  unfolding settled ruling amendRuling
   amend-guards v s h =
       ap (λ (b : Bool). settle r (2 unless (isUser user ∷ isCapability n ∷ b ∷ []) ∷ rest (n % 256) (a .zero) (a .below) (a .limit) bound) v s)
       (ap (λ (x : Amendment). x .ranged) asked ∙ ranged-is change ((capabilityAt (r .capabilities) (n % 256)) .«use_limit»))
@@ -116,7 +110,7 @@ module _
           ∙ settle-after r asked-rest v _ s _ (h e t)
 
   pub amend-refused : {why : Refusal} → k ≡ Refuse why → record { answer = refused (refusalNumber why); after = r } ≡ settled r (amend user n change)
-  amend-refused q = refuse-settled r ((amendRuling r user n change) .after) _ ((amendRuling r user n change) .result) k checks q ∙ amend-guards _ _ (λ e t g. (refl, refl))
+  amend-refused q = refuse-ruled r ((amendRuling r user n change) .after) _ ((amendRuling r user n change) .result) k checks q ∙ amend-guards _ _ (λ e t g. (refl, refl))
 
   -- no origin's limit passes 65,535
   limit-small : (o : Origin) → originAt (r .capabilities) n ≡ o → n < r .count → (terms (r .roles) (r .capabilities) o) .use-limit < 65536
@@ -129,7 +123,7 @@ module _
   pub amend-passed : k ≡ Pass → sweptBy r (Limit (n % 256) (a .limit % 65536)) ≡ settled r (amend user n change)
   unfolding amendRuling
   amend-passed p =
-      pass-settled r _ _ (a .limit % 65536) k tt checks p
+      pass-ruled r _ _ (a .limit % 65536) k tt checks p
       ∙ amend-guards (a .limit % 65536) _
       (λ e t g.
       let there : n < r .count = ltb→lt n (r .count) (passed 3 asked-rest g .1 .0) in

@@ -10,7 +10,7 @@ use Rattle.sweeps.specs.declared.Sweep.{Sweep}
 use Rattle.sweeps.specs.Sweeping.{sweptBy}
 use Rattle.revocation.specs.Orders.{orderEffect, orderedBy}
 
-pub order-by : (r : Register) (e : Effect) (k : Check) (s : Sweep) → ((why : Refusal) → k ≡ Refuse why → record { answer = refused (refusalNumber why); after = r } ≡ e)
+pub order-by : (r : Register) (e : Effect Register) (k : Check) (s : Sweep) → ((why : Refusal) → k ≡ Refuse why → record { answer = refused (refusalNumber why); after = r } ≡ e)
     → (k ≡ Pass → sweptBy r s ≡ e) → orderEffect r (orderedBy k s) ≡ e
 order-by r e Pass s f g = g refl
 order-by r e (Refuse why) s f g = f why refl

@@ -7,7 +7,7 @@ use Prim.Native.Nat.{ℕ, zero, suc, _+_, _%_, _≤_, _<_}
 use native.Mathlib.Nat.{le-refl, eq-or-lt-of-le}
 use native.Mathlib.Omega.{arith}
 use lib.Dec.{T, eqb, ltb, ltb→lt}
-use lib.ListN.{getD}
+use lib.ListN.{drop, getD}
 use Rattle.masks.specs.Masks.{has}
 use Rattle.masks.specs.Tests.{countBelow, rising}
 use Rattle.masks.proofs.Bounded.{countBelow-ext}
@@ -21,7 +21,7 @@ use Rattle.model.specs.Sweeps.{markOne}
 use Rattle.model.specs.Lineage.{lineage, inLineage, anyCreated}
 use Rattle.model.specs.Rules.{wellFormed, isUser, isCapability}
 use Rattle.model.specs.Rulings.{value, refused, Guard, _unless_, _when_, settle}
-use Rattle.model.specs.Revocation.{revokeRuling}
+use Rattle.model.specs.Revocation.{revokeGuards, revokeRuling}
 use Rattle.model.specs.Calls.{revoke, ruling, settled}
 use Rattle.model.specs.Requests.{refusalNumber}
 use Rattle.model.proofs.Rules.{kept→}
@@ -32,9 +32,9 @@ use Rattle.slots.specs.Checks.{checked, firstNumber}
 use Rattle.slots.proofs.CheckLaws.{in-range}
 use Rattle.sweeps.specs.declared.Sweep.the-variants.{Mark}
 use Rattle.sweeps.specs.Sweeping.{newlyBy, sweptBy}
-use Rattle.revocation.specs.Guards.{revokeGuards}
 use Rattle.revocation.specs.Tree.{lineageHas}
-use Rattle.slots.proofs.SettleLaws.{settle-past, refuse-settled, pass-settled}
+use Rattle.model.proofs.Settling.{settle-past}
+use Rattle.slots.proofs.CheckLaws.{refuse-ruled, pass-ruled}
 use Rattle.revocation.proofs.Ascent.{Origins, Creators, created-is}
 
 -- the capabilities once revoke's sweep has done those below i, and whether it newly marks i
@@ -104,29 +104,29 @@ module _
 
   revoke-guards : (v : ℕ) (s : Register) → (n % 256 ≡ n → n < r .count → (v ≡ (revokeRuling r user n) .result) × (s ≡ (revokeRuling r user n) .after))
       → settle r guards v s ≡ settled r (revoke user n)
-  unfolding settled ruling revokeRuling exists
+  unfolding settled ruling revokeRuling
   revoke-guards v s h =
       settle-past r (2 unless (isUser user ∷ isCapability n ∷ [])) _ _ _ _ _ _
       (λ ranged. settle-past r (3 unless (has (r .enrolled) user ∷ ltb n (r .count) ∷ [])) _ _ _ _ _ _
-      (λ known. same (in-range n 256 (ranged .1 .0)) (ltb→lt n (r .count) (known .1 .0))))
+      (λ known.
+      let e : n % 256 ≡ n = in-range n 256 (ranged .1 .0) in
+      let l : n < r .count = ltb→lt n (r .count) (known .1 .0) in
+      let w : (v ≡ (revokeRuling r user n) .result) × (s ≡ (revokeRuling r user n) .after) = h e l in
+      ap₂ (λ (a b : Bool). settle r (rest a b) v s)
+      (created-is r formed origins up creators by user n entitled l (rw e at along))
+      (ap (λ (j : ℕ). (capabilityAt (r .capabilities) j) .revoked) e)
+      ∙ ap₂ (settle r (drop 2 ((revokeRuling r user n) .guards))) (w .0) (w .1)))
     where
-      same : n % 256 ≡ n → n < r .count
-          → settle r (6 unless (entitled ∷ []) ∷ 7 when ((capabilityAt (r .capabilities) (n % 256)) .revoked) ∷ []) v s
-          ≡ settle r (6 unless (anyCreated (r .capabilities) user (lineage (suc n) (r .capabilities) n) ∷ []) ∷ 7 when ((capabilityAt (r .capabilities) n) .revoked) ∷ [])
-          ((revokeRuling r user n) .result) ((revokeRuling r user n) .after)
-      same e l =
-          let yes : entitled ≡ anyCreated (r .capabilities) user (lineage (suc n) (r .capabilities) n) = created-is r formed origins up creators by user n entitled l (rw e at along) in
-          let w : (v ≡ (revokeRuling r user n) .result) × (s ≡ (revokeRuling r user n) .after) = h e l in
-          ap₂ (λ (a b : Bool). settle r (6 unless (a ∷ []) ∷ 7 when b ∷ []) v s) yes (ap (λ (j : ℕ). (capabilityAt (r .capabilities) j) .revoked) e)
-          ∙ ap₂ (λ (x : ℕ) (y : Register). settle r (6 unless (anyCreated (r .capabilities) user (lineage (suc n) (r .capabilities) n) ∷ []) ∷ 7 when ((capabilityAt (r .capabilities) n) .revoked) ∷ []) x y) (w .0) (w .1)
+      rest : Bool → Bool → List Guard
+      rest a b = drop 2 (revokeGuards (r .enrolled) (r .count) user n a b)
 
   pub revoke-refused : {why : Refusal} → k ≡ Refuse why → record { answer = refused (refusalNumber why); after = r } ≡ settled r (revoke user n)
-  revoke-refused q = refuse-settled r ((revokeRuling r user n) .after) guards ((revokeRuling r user n) .result) k checks q ∙ revoke-guards _ _ (λ e l. (refl, refl))
+  revoke-refused q = refuse-ruled r ((revokeRuling r user n) .after) guards ((revokeRuling r user n) .result) k checks q ∙ revoke-guards _ _ (λ e l. (refl, refl))
 
   pub revoke-passed : k ≡ Pass → sweptBy r (Mark (n % 256)) ≡ settled r (revoke user n)
   unfolding revokeRuling
   revoke-passed p =
-      pass-settled r _ guards _ k tt checks p
+      pass-ruled r _ guards _ k tt checks p
       ∙ revoke-guards _ _
       (λ e l. (
         ap (λ (j : ℕ). countBelow 256 (newlyMarked (r .capabilities) j)) e ∙ marks-counted r formed n l,

@@ -9,17 +9,17 @@ use lib.ListN.{getD}
 use Rattle.masks.specs.Masks.{joined}
 use Rattle.model.specs.declared.Capability.{Capability}
 use Rattle.model.specs.declared.Register.{Register}
-use Rattle.model.specs.State.{capabilityAt, roleAt, authority, exists}
+use Rattle.model.specs.State.{capabilityAt, roleAt, authority}
 use Rattle.model.specs.Rules.{wellFormed, isCapability}
 use Rattle.model.specs.Rulings.{Outcome, Effect, _unless_, settle}
-use Rattle.model.specs.Comparison.{domainOf, alike, sameRuling}
+use Rattle.model.specs.Comparison.{domainOf, alike, sameGuards, sameRuling}
 use Rattle.model.specs.Calls.{same, ruling, settled}
 use Rattle.slots.proofs.CheckLaws.{in-range, conj-each}
 use Rattle.slots.proofs.TermLaws.{Column, lent-column}
 use Rattle.sweeps.specs.Sweeping.{oneIf}
-use Rattle.revocation.specs.Guards.{sameGuards, sameAnswer}
+use Rattle.revocation.specs.Guards.{sameAnswer}
 use Rattle.revocation.specs.Tree.{lineageEnd}
-use Rattle.slots.proofs.SettleLaws.{settle-past, settle-same}
+use Rattle.model.proofs.Settling.{settle-past, settle-same}
 use Rattle.revocation.proofs.Ascent.{Origins, root-is}
 
 -- x is where the lineage of capability n ends, by the column of origins
@@ -48,8 +48,8 @@ module _
       → domain-a ≡ (roleAt (r .roles) x) .domain → domain-b ≡ (roleAt (r .roles) y) .domain
       → lent-a ≡ lentBy permissions (a .lent) → lent-b ≡ lentBy permissions (b .lent)
       → q ≡ sameAnswer (r .count) m n a b domain-a domain-b lent-a lent-b
-      → _≡_ {A = Effect} (record { answer = q; after = r }) (settled r (same m n))
-  unfolding sameAnswer settled ruling sameRuling exists alike oneIf
+      → _≡_ {A = Effect Register} (record { answer = q; after = r }) (settled r (same m n))
+  unfolding sameAnswer settled ruling sameRuling alike oneIf
   same-settled m n x y a b domain-a domain-b lent-a lent-b {q} ends-m ends-n at-m at-n in-a in-b of-a of-b e =
       ap (λ (z : Outcome). record { answer = z; after = r }) e
       ∙ settle-same r (sameGuards (r .count) m n) _

@@ -3,56 +3,47 @@ use mathlib.Core.Path.{_≡_, refl, ap₂, _∙_}
 use mathlib.Core.List.{[], _∷_}
 use Prim.Native.Nat.{ℕ, _%_}
 use native.Mathlib.Omega.{arith}
-use lib.ListN.{set}
-use Rattle.masks.specs.Masks.{has, excluding}
-use Rattle.masks.specs.Tests.{rising}
+use lib.ListN.{drop}
+use Rattle.masks.specs.Masks.{excluding}
 use Rattle.model.specs.declared.Refusal.{Refusal}
+use Rattle.model.specs.declared.Role.{Role}
 use Rattle.model.specs.declared.Register.{Register}
-use Rattle.model.specs.State.{blankCapability, roleAt, exists}
-use Rattle.model.specs.Setters.{withRolePermissions, withRoles, withCapabilities}
+use Rattle.model.specs.Setters.{withRolePermissions}
 use Rattle.model.specs.Rules.{isRole, isPermission}
-use Rattle.model.specs.Rulings.{value, refused, _unless_, settle}
-use Rattle.model.specs.Administration.{cutPermissions, withdrawRuling}
+use Rattle.model.specs.Rulings.{refused, _unless_, settle, role}
+use Rattle.model.specs.Administration.{puttingRole, withdrawing, cutAfterRole, withdrawRuling}
 use Rattle.model.specs.Calls.{withdraw, ruling, settled}
 use Rattle.model.specs.Requests.{refusalNumber}
 use Rattle.slots.specs.declared.checks.Check.{Check}
 use Rattle.slots.specs.declared.checks.Check.the-variants.{Pass, Refuse}
 use Rattle.slots.specs.Checks.{checked, firstNumber}
-use Rattle.slots.proofs.CheckLaws.{in-range}
 use Rattle.sweeps.specs.declared.Sweep.the-variants.{Cut}
 use Rattle.sweeps.specs.Sweeping.{sweptBy}
-use Rattle.revocation.specs.Guards.{withdrawGuards}
-use Rattle.slots.proofs.SettleLaws.{settle-past, refuse-settled, pass-settled}
+use Rattle.model.proofs.Settling.{settle-past}
+use Rattle.slots.proofs.CheckLaws.{in-range, refuse-ruled, pass-ruled}
 
--- the register after the sweep over the capabilities, by the roles after the permission is taken from role j
-abbrev pub cutAfter : Register → Register
-cutAfter r = withCapabilities r (rising blankCapability (cutPermissions (r .roles)) 256 (r .capabilities))
+-- role j, with x put anew, and the sweep over the capabilities after it
+abbrev sweptFrom : Register → ℕ → Role → Register
+sweptFrom r j x = cutAfterRole (puttingRole r j x)
 
-abbrev pub takenFrom : Register → ℕ → ℕ → Register
-takenFrom r j p = withRoles r (set (r .roles) j (withRolePermissions (roleAt (r .roles) j) (excluding ((roleAt (r .roles) j) .permissions) p)))
-
-module _ (r : Register) (role permission : ℕ) (k : Check) (checks : checked k ≡ firstNumber (withdrawGuards (roleAt (r .roles) (role % 32)) role permission)) where
-  withdraw-guards : (s : Register) → (role % 32 ≡ role → permission % 32 ≡ permission → s ≡ cutAfter (takenFrom r role permission))
-      → settle r (withdrawGuards (roleAt (r .roles) (role % 32)) role permission) 0 s ≡ settled r (withdraw role permission)
-  unfolding settled ruling withdrawRuling exists
+module _ (r : Register) (k p : ℕ) (c : Check) (checks : checked c ≡ firstNumber ((withdrawing (role r (k % 32)) k p) .guards)) where
+  withdraw-guards : (s : Register) → (k % 32 ≡ k → p % 32 ≡ p → s ≡ sweptFrom r k ((withdrawing (role r k) k p) .after))
+      → settle r ((withdrawing (role r (k % 32)) k p) .guards) 0 s ≡ settled r (withdraw k p)
+  unfolding settled ruling withdrawRuling
   withdraw-guards s h =
-      settle-past r (2 unless (isRole role ∷ isPermission permission ∷ [])) _ _ _ _ _ _
-      (λ ranged. same (in-range role 32 (ranged .0)) (in-range permission 32 (ranged .1 .0)))
-    where
-      same : role % 32 ≡ role → permission % 32 ≡ permission
-          → settle r (3 unless ((roleAt (r .roles) (role % 32)) .founded ∷ []) ∷ 4 unless (has ((roleAt (r .roles) (role % 32)) .permissions) permission ∷ []) ∷ []) 0 s
-          ≡ settle r (3 unless ((roleAt (r .roles) role) .founded ∷ []) ∷ 4 unless (has ((roleAt (r .roles) role) .permissions) permission ∷ []) ∷ []) 0 (cutAfter (takenFrom r role permission))
-      same e f =
-          ap₂ (λ (j : ℕ) (t : Register). settle r (3 unless ((roleAt (r .roles) j) .founded ∷ []) ∷ 4 unless (has ((roleAt (r .roles) j) .permissions) permission ∷ []) ∷ []) 0 t) e (h e f)
+      settle-past r (2 unless (isRole k ∷ isPermission p ∷ [])) _ _ _ _ _ _
+      (λ ranged.
+      let e : k % 32 ≡ k = in-range k 32 (ranged .0) in
+      ap₂ (λ (j : ℕ) (t : Register). settle r (drop 1 ((withdrawing (role r j) k p) .guards)) 0 t) e (h e (in-range p 32 (ranged .1 .0))))
 
-  pub withdraw-refused : {why : Refusal} → k ≡ Refuse why → record { answer = refused (refusalNumber why); after = r } ≡ settled r (withdraw role permission)
-  withdraw-refused q = refuse-settled r (cutAfter (takenFrom r role permission)) _ 0 k checks q ∙ withdraw-guards _ (λ e f. refl)
+  pub withdraw-refused : {why : Refusal} → c ≡ Refuse why → record { answer = refused (refusalNumber why); after = r } ≡ settled r (withdraw k p)
+  withdraw-refused q = refuse-ruled r _ _ 0 c checks q ∙ withdraw-guards _ (λ e f. refl)
 
-  pub withdraw-passed : (left : ℕ) → left ≡ excluding ((roleAt (r .roles) (role % 32)) .permissions) (permission % 32) → k ≡ Pass → sweptBy r (Cut (role % 32) left) ≡ settled r (withdraw role permission)
-  withdraw-passed left m p =
-      pass-settled r _ _ 0 k tt checks p
+  pub withdraw-passed : (left : ℕ) → left ≡ excluding ((role r (k % 32)) .permissions) (p % 32) → c ≡ Pass → sweptBy r (Cut (k % 32) left) ≡ settled r (withdraw k p)
+  withdraw-passed left m q =
+      pass-ruled r _ _ 0 c tt checks q
       ∙ withdraw-guards _
       (λ e f.
-      let at : role % 32 % 32 ≡ role = omega (arith, e) in
-      ap₂ (λ (j x : ℕ). cutAfter (withRoles r (set (r .roles) j (withRolePermissions (roleAt (r .roles) j) x)))) at
-      (m ∙ ap₂ (λ (j q : ℕ). excluding ((roleAt (r .roles) j) .permissions) q) e f))
+      let at : k % 32 % 32 ≡ k = omega (arith, e) in
+      ap₂ (λ (j x : ℕ). sweptFrom r j (withRolePermissions (role r j) x)) at
+      (m ∙ ap₂ (λ (j y : ℕ). excluding ((role r j) .permissions) y) e f))

@@ -16,7 +16,7 @@ use Rattle.revocation.specs.declared.orders.Order.{Order}
 use Rattle.revocation.specs.declared.orders.Order.the-variants.{Answered, Swept}
 
 -- what an order comes to
-abbrev pub orderEffect : Register → Order → Effect
+abbrev pub orderEffect : Register → Order → Effect Register
 orderEffect r (Answered a) = record { answer = outcomeOf a; after = r }
 orderEffect r (Swept s) = sweptBy r s
 

@@ -6,7 +6,7 @@ ghost use Rattle.model.specs.Rules.{wellFormed};
 ghost use Rattle.model.specs.Calls.{settled, amend};
 ghost use Rattle.model.specs.Requests.{changeOf};
 ghost use Rattle.slots.specs.Checks.{checked, firstNumber};
-ghost use Rattle.revocation.specs.Guards.{amendGuards};
+ghost use Rattle.revocation.specs.Guards.{amendmentGuards};
 ghost use Rattle.revocation.specs.Orders.{amendmentOf, orderEffect};
 use crate::orders::Order;
 use crate::orders::ordered;
@@ -63,7 +63,7 @@ pub fn amend_check(
     a: Amendment,
     bound: u16,
 ) -> Check
-    ensures { λ q. ⌜ checked q ≡ firstNumber (amendGuards enrolled count user n c a bound) ⌝ }
+    ensures { λ q. ⌜ checked q ≡ firstNumber (amendmentGuards enrolled count user n c a bound) ⌝ }
 {
     let k = first(!(a.limit <= bound as u32), Refusal::Exceeds, Check::Pass);
     let k = first(a.below, Refusal::Exhausted, k);

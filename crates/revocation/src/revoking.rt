@@ -4,7 +4,7 @@ ghost use lib.Dec.{T};
 ghost use Rattle.model.specs.Rules.{wellFormed};
 ghost use Rattle.model.specs.Calls.{settled, revoke};
 ghost use Rattle.slots.specs.Checks.{checked, firstNumber};
-ghost use Rattle.revocation.specs.Guards.{revokeGuards};
+ghost use Rattle.model.specs.Revocation.{revokeGuards};
 ghost use Rattle.revocation.specs.Orders.{orderEffect};
 use crate::columns::lineage_of;
 use crate::lineage::created;

@@ -4,7 +4,7 @@ ghost use lib.Dec.{T};
 ghost use Rattle.model.specs.Rules.{wellFormed};
 ghost use Rattle.model.specs.Calls.{settled, withdraw};
 ghost use Rattle.slots.specs.Checks.{checked, firstNumber};
-ghost use Rattle.revocation.specs.Guards.{withdrawGuards};
+ghost use Rattle.model.specs.Administration.{withdrawing};
 ghost use Rattle.revocation.specs.Orders.{orderEffect};
 use crate::orders::Order;
 use crate::orders::ordered;
@@ -18,7 +18,7 @@ use slots::checks::first;
 use sweeps::Sweep;
 
 pub fn withdraw_check(x: Role, role: u32, permission: u32) -> Check
-    ensures { λ q. ⌜ checked q ≡ firstNumber (withdrawGuards x role permission) ⌝ }
+    ensures { λ q. ⌜ checked q ≡ firstNumber ((withdrawing x role permission) .guards) ⌝ }
 {
     let granted = member(x.permissions as u64, permission);
     let k = first(!granted, Refusal::Unchanged, Check::Pass);

@@ -17,11 +17,12 @@ use Rattle.model.specs.declared.Role.{Role}
 use Rattle.model.specs.declared.Capability.{Capability}
 use Rattle.model.specs.declared.Session.{Session}
 use Rattle.model.specs.declared.Register.{Register}
-use Rattle.model.specs.State.{Terms, terms, claims, below, exists, authority, lentAuthority, roleAuthority, admitted, inContext, roleAt, capabilityAt, sessionAt, blankRole, blankCapability, blankSession}
+use Rattle.model.specs.State.{there, Terms, terms, claims, below, exists, authority, lentAuthority, roleAuthority, admitted, inContext, roleAt, capabilityAt, sessionAt, blankRole, blankCapability, blankSession}
 use Rattle.model.specs.Lineage.{children}
 use Rattle.model.specs.Rules.{isOrigin, isUser, isDomain, bits, userKeeps, roleBlank, sameDomain, roleKeeps, capabilityBlank, rangeTests, inRange, allFounded, earlier, ownKeeps, capabilityKeeps, placeKeeps, sessionBlank, sessionKeeps, wellFormed}
-use Rattle.entries.specs.declared.limits.Limits.{Limits}
-use Rattle.entries.specs.Limits.{numberOf, limitsOf, asTerms, roleKeepsWith, placeWith, sessionKeepsWith}
+use Rattle.parties.specs.Terms.{partyIn, slotTerms}
+use Rattle.parties.proofs.Laws.{role-terms, capability-terms}
+use Rattle.entries.specs.Limits.{numberOf, roleKeepsWith, placeWith, sessionKeepsWith}
 use Rattle.entries.proofs.Laws.{fromLeft, left-each}
 use Rattle.rules.specs.Columns.{masked, isFounded, inDomain, BlankFrom}
 use Rattle.masks.proofs.JoinLaws.{joined-same}
@@ -29,30 +30,23 @@ use Rattle.rules.proofs.Laws.{all-below, all-rest, each-under, within-m
 
 -- ---- origins: a role's number is below 32
 
-there-exists : (roles : List Role) (count : ℕ) (p : Capability) (o : Origin) (k a : ℕ) → k ≡ numberOf o → T (isOrigin o)
-    → (limitsOf o count (roleAt roles (k % 32)) p a) .there ≡ exists roles count o
+there-exists : (roles : List Role) (count : ℕ) (p : Capability) (o : Origin) (k : ℕ) → k ≡ numberOf o → T (isOrigin o)
+    → there count (partyIn o (roleAt roles (k % 32)) p) ≡ exists roles count o
 unfolding exists
-there-exists roles count p (ofRole j) k a e h =
-    let l : j < 32 = ltb→lt j 32 h in
-    rw (e, mod-eq-of-lt l, lt-ltb j 32 l)
-there-exists roles count p (ofCapability j) k a e h = refl
+there-exists roles count p (ofRole j) k e h = rw (e, mod-eq-of-lt (ltb→lt j 32 h))
+there-exists roles count p (ofCapability j) k e h = refl
 
-limits-terms : (roles : List Role) (count : ℕ) (cs : List Capability) (o : Origin) (k a : ℕ) → k ≡ numberOf o → T (isOrigin o)
-    → a ≡ authority roles (capabilityAt cs k)
-    → asTerms (limitsOf o count (roleAt roles (k % 32)) (capabilityAt cs k) a) ≡ terms roles cs o
-unfolding terms roleAuthority
-limits-terms roles count cs (ofRole j) k a e h f =
-    let l : j < 32 = ltb→lt j 32 h in
-    rw (e, mod-eq-of-lt l)
-limits-terms roles count cs (ofCapability j) k a e h f = rw (f, e)
+limits-terms : (roles : List Role) (cs : List Capability) (o : Origin) (k lent : ℕ) → k ≡ numberOf o → T (isOrigin o)
+    → lent ≡ lentAuthority roles ((capabilityAt cs k) .lent)
+    → slotTerms o (roleAt roles (k % 32)) (capabilityAt cs k) lent ≡ terms roles cs o
+limits-terms roles cs (ofRole j) k lent e h f = rw (e, mod-eq-of-lt (ltb→lt j 32 h)) (role-terms roles cs j _ _ (ltb→lt j 32 h))
+limits-terms roles cs (ofCapability j) k lent e h f = rw e (capability-terms roles cs j _ _ (rw e at f))
 
-limits-admit : (roles : List Role) (count : ℕ) (cs : List Capability) (o : Origin) (k hour place device : ℕ) → k ≡ numberOf o → T (isOrigin o)
-    → admitted (asTerms (limitsOf o count (roleAt roles (k % 32)) (capabilityAt cs k) 0)) hour place device ≡ admitted (terms roles cs o) hour place device
-unfolding admitted terms
-limits-admit roles count cs (ofRole j) k hour place device e h =
-    let l : j < 32 = ltb→lt j 32 h in
-    rw (e, mod-eq-of-lt l)
-limits-admit roles count cs (ofCapability j) k hour place device e h = rw e
+limits-admit : (roles : List Role) (cs : List Capability) (o : Origin) (k hour place device : ℕ) → k ≡ numberOf o → T (isOrigin o)
+    → admitted (slotTerms o (roleAt roles (k % 32)) (capabilityAt cs k) 0) hour place device ≡ admitted (terms roles cs o) hour place device
+unfolding admitted slotTerms terms
+limits-admit roles cs (ofRole j) k hour place device e h = rw (e, mod-eq-of-lt (ltb→lt j 32 h))
+limits-admit roles cs (ofCapability j) k hour place device e h = rw e
 
 -- ---- a role; users has the users of each domain
 
@@ -82,18 +76,19 @@ role-agrees enrolled domains users k x column =
 
 -- ---- a capability
 
-pub place-agrees : (enrolled : ℕ) (roles : List Role) (count : ℕ) (cs : List Capability) (n k founded lent made : ℕ) (f : ℕ → ℕ) (u : Limits) → k ≡ numberOf ((capabilityAt cs n) .origin)
+pub place-agrees : (enrolled : ℕ) (roles : List Role) (count : ℕ) (cs : List Capability) (n k founded lent made : ℕ) (f : ℕ → ℕ) (known : Bool) (u : Terms) → k ≡ numberOf ((capabilityAt cs n) .origin)
     → founded ≡ masked (isFounded roles) 32
     → ((j : ℕ) → j < 32 → f j ≡ roleAuthority roles j)
     → lent ≡ joined f ((capabilityAt cs k) .lent) 32
-    → u ≡ limitsOf ((capabilityAt cs n) .origin) count (roleAt roles (k % 32)) (capabilityAt cs k) (bitOr ((capabilityAt cs k) .permissions) lent)
+    → known ≡ there count (partyIn ((capabilityAt cs n) .origin) (roleAt roles (k % 32)) (capabilityAt cs k))
+    → u ≡ slotTerms ((capabilityAt cs n) .origin) (roleAt roles (k % 32)) (capabilityAt cs k) lent
     → made ≡ children count cs n
-    → placeWith enrolled founded count n u made (capabilityAt cs n) ≡ placeKeeps enrolled roles count cs n (capabilityAt cs n)
-unfolding placeWith placeKeeps capabilityKeeps inRange allFounded authority lentAuthority
-place-agrees enrolled roles count cs n k founded lent made f u at-k at-founded column at-lent at-u at-made =
+    → placeWith enrolled founded count n known u made (capabilityAt cs n) ≡ placeKeeps enrolled roles count cs n (capabilityAt cs n)
+unfolding placeWith placeKeeps capabilityKeeps inRange allFounded lentAuthority
+place-agrees enrolled roles count cs n k founded lent made f known u at-k at-founded column at-lent at-known at-u at-made =
     ap
     (λ (b : Bool). cond (ltb n count) b (capabilityBlank c))
-    (each-under (inRange c ∷ []) (rest (within (c .lent) founded) (u .there) (asTerms u) made) (rest (allFounded roles (c .lent)) (exists roles count (c .origin)) (terms roles cs (c .origin)) (children count cs n)) agree)
+    (each-under (inRange c ∷ []) (rest (within (c .lent) founded) known u made) (rest (allFounded roles (c .lent)) (exists roles count (c .origin)) (terms roles cs (c .origin)) (children count cs n)) agree)
   where
     c : Capability
     c = capabilityAt cs n
@@ -106,35 +101,35 @@ place-agrees enrolled roles count cs n k founded lent made f u at-k at-founded c
         a ∷ b ∷ earlier n (c .origin) ∷ below (claims c) t ∷ eqb (c .creations) m ∷ leb (c .creations) (c .«creation_limit») ∷ ownKeeps enrolled c ∷ []
 
     agree : Each (inRange c ∷ [])
-        → each (rest (within (c .lent) founded) (u .there) (asTerms u) made) ≡ each (rest (allFounded roles (c .lent)) (exists roles count (c .origin)) (terms roles cs (c .origin)) (children count cs n))
+        → each (rest (within (c .lent) founded) known u made) ≡ each (rest (allFounded roles (c .lent)) (exists roles count (c .origin)) (terms roles cs (c .origin)) (children count cs n))
     agree h =
         let named : T (isOrigin (c .origin)) = each-at (rangeTests c) (h .0) 0 in
-        let carried : bitOr (p .permissions) lent ≡ authority roles p = ap (bitOr (p .permissions)) (at-lent ∙ joined-same f (roleAuthority roles) (p .lent) 32 column) in
-        ap₂ (λ (a b : Bool). each (rest a b (asTerms u) made))
+        let carried : lent ≡ lentAuthority roles (p .lent) = at-lent ∙ joined-same f (roleAuthority roles) (p .lent) 32 column in
+        ap₂ (λ (a b : Bool). each (rest a b u made))
         (ap (within (c .lent)) at-founded ∙ within-masked (isFounded roles) 32 (c .lent) (ltb→lt _ _ (each-at (rangeTests c) (h .0) 3)))
-        (ap (λ (v : Limits). v .there) at-u ∙ there-exists roles count p (c .origin) k _ at-k named)
+        (at-known ∙ there-exists roles count p (c .origin) k at-k named)
         ∙ ap₂ (λ (t : Terms) (m : ℕ). each (rest (allFounded roles (c .lent)) (exists roles count (c .origin)) t m))
-        (ap asTerms at-u ∙ limits-terms roles count cs (c .origin) k _ at-k named carried)
+        (at-u ∙ limits-terms roles cs (c .origin) k _ at-k named carried)
         at-made
 
 -- ---- a session
 
-pub session-agrees : (enrolled : ℕ) (roles : List Role) (count : ℕ) (cs : List Capability) (i k : ℕ) (s : Session) (u : Limits) → k ≡ numberOf (s .on)
-    → u ≡ limitsOf (s .on) count (roleAt roles (k % 32)) (capabilityAt cs k) 0
-    → sessionKeepsWith enrolled u s ≡ sessionKeeps enrolled roles count cs i s
+pub session-agrees : (enrolled : ℕ) (roles : List Role) (count : ℕ) (cs : List Capability) (i k : ℕ) (s : Session) (known : Bool) (u : Terms) → k ≡ numberOf (s .on)
+    → known ≡ there count (partyIn (s .on) (roleAt roles (k % 32)) (capabilityAt cs k))
+    → u ≡ slotTerms (s .on) (roleAt roles (k % 32)) (capabilityAt cs k) 0
+    → sessionKeepsWith enrolled known u s ≡ sessionKeeps enrolled roles count cs i s
 unfolding sessionKeepsWith sessionKeeps
-session-agrees enrolled roles count cs i k s u at-k at-u =
-    ap (λ (b : Bool). cond (s .active) b (sessionBlank s)) (each-under before (u .there ∷ admitted (asTerms u) (s .hour) (s .place) (s .device) ∷ []) (exists roles count (s .on) ∷ admitted (terms roles cs (s .on)) (s .hour) (s .place) (s .device) ∷ []) agree)
+session-agrees enrolled roles count cs i k s known u at-k at-known at-u =
+    ap (λ (b : Bool). cond (s .active) b (sessionBlank s)) (each-under before (known ∷ admitted u (s .hour) (s .place) (s .device) ∷ []) (exists roles count (s .on) ∷ admitted (terms roles cs (s .on)) (s .hour) (s .place) (s .device) ∷ []) agree)
   where
     before : List Bool
     before = isUser (s .user) ∷ isOrigin (s .on) ∷ inContext (s .hour) (s .place) (s .device) ∷ has enrolled (s .user) ∷ []
 
-    agree : Each before → each (u .there ∷ admitted (asTerms u) (s .hour) (s .place) (s .device) ∷ []) ≡ each (exists roles count (s .on) ∷ admitted (terms roles cs (s .on)) (s .hour) (s .place) (s .device) ∷ [])
+    agree : Each before → each (known ∷ admitted u (s .hour) (s .place) (s .device) ∷ []) ≡ each (exists roles count (s .on) ∷ admitted (terms roles cs (s .on)) (s .hour) (s .place) (s .device) ∷ [])
     agree h =
-        ap (λ (v : Limits). each (v .there ∷ admitted (asTerms v) (s .hour) (s .place) (s .device) ∷ [])) at-u
-        ∙ ap₂ (λ (a b : Bool). each (a ∷ b ∷ []))
-        (there-exists roles count (capabilityAt cs k) (s .on) k 0 at-k (h .1 .0))
-        (limits-admit roles count cs (s .on) k (s .hour) (s .place) (s .device) at-k (h .1 .0))
+        ap₂ (λ (a b : Bool). each (a ∷ b ∷ []))
+        (at-known ∙ there-exists roles count (capabilityAt cs k) (s .on) k at-k (h .1 .0))
+        (ap (λ (t : Terms). admitted t (s .hour) (s .place) (s .device)) at-u ∙ limits-admit roles cs (s .on) k (s .hour) (s .place) (s .device) at-k (h .1 .0))
 
 -- ---- the register
 

@@ -9,10 +9,11 @@ use crate::columns::founded_roles;
 use crate::columns::places;
 use crate::columns::role_permissions;
 use entries::capability::keeps_place;
-use entries::limits::limits_of;
 use entries::limits::number_of;
 use masks::join;
 use model::Register;
+use parties::allowance_of;
+use parties::present_in;
 
 // The rules of the places below the bound, up to the first that breaks them. How many were created from each capability is counted
 // first; a function of its own for that would copy the register.
@@ -42,8 +43,9 @@ pub fn capabilities_keep(r: Register, bound: usize) -> bool
         let role = roles[(k % 32) as usize];
         let p = r.capabilities[k as usize];
         let lent = join(&permissions, p.lent);
-        let u = limits_of(o, count, role, p, p.permissions | lent);
-        let kept = keeps_place(enrolled, founded, count, i, u, table[i], c);
+        let u = allowance_of(o, role, p, lent);
+        let there = present_in(o, role, count);
+        let kept = keeps_place(enrolled, founded, count, i, there, u, table[i], c);
         if !kept {
             return false;
         }

@@ -3,10 +3,11 @@ ghost use mathlib.Core.Path.{_≡_};
 ghost use Rattle.masks.specs.Tests.{allBelow};
 ghost use Rattle.model.specs.State.{sessionAt};
 ghost use Rattle.model.specs.Rules.{sessionKeeps};
-use entries::limits::limits_of;
 use entries::limits::number_of;
 use entries::sessions::session_keeps;
 use model::Register;
+use parties::allowance_of;
+use parties::present_in;
 
 pub fn sessions_keep(r: Register) -> bool
     ensures { λ q. ⌜ q ≡ allBelow 64 (λ n. sessionKeeps (r .enrolled) (r .roles) (r .count) (r .capabilities) n (sessionAt (r .sessions) n)) ⌝ }
@@ -21,8 +22,9 @@ pub fn sessions_keep(r: Register) -> bool
         let k = number_of(o);
         let role = r.roles[(k % 32) as usize];
         let p = r.capabilities[k as usize];
-        let u = limits_of(o, count, role, p, 0);
-        ok = ok & session_keeps(enrolled, u, s);
+        let u = allowance_of(o, role, p, 0);
+        let there = present_in(o, role, count);
+        ok = ok & session_keeps(enrolled, there, u, s);
         i = i + 1;
     }
     ok

@@ -1,10 +1,7 @@
--- The calls on sessions over the elements that they name: guards, value and elements after. `proofs/Commits.antt` shows that,
--- put back, they are the calls of the model.
-use mathlib.Core.Bool.{Bool, cond, not}
-use mathlib.Core.List.{List, [], _∷_}
-use Prim.Native.Nat.{ℕ, _%_}
-use lib.ListN.{getD}
-use Rattle.masks.specs.Masks.{has, joined}
+-- The calls on sessions over the elements that they name: the model's rulings, on the elements that are read.
+use mathlib.Core.Bool.{Bool}
+use mathlib.Core.List.{List}
+use Prim.Native.Nat.{ℕ}
 use Rattle.masks.specs.Tests.{each}
 use Rattle.model.specs.declared.Origin.{Origin}
 use Rattle.model.specs.declared.Named.{Named}
@@ -12,87 +9,36 @@ use Rattle.model.specs.declared.Context.{Context}
 use Rattle.model.specs.declared.Role.{Role}
 use Rattle.model.specs.declared.Capability.{Capability}
 use Rattle.model.specs.declared.Session.{Session}
-use Rattle.model.specs.State.{blankSession, inContext, admitted}
-use Rattle.model.specs.Rules.{isSession, isUser, isPermission, isOrigin}
-use Rattle.model.specs.Rulings.{Outcome, Guard, _unless_, _when_}
+use Rattle.model.specs.Rulings.{Effect, Outcome, Ruling, into, ruled}
 use Rattle.model.specs.Requests.{namedOrigin}
-use Rattle.model.specs.Sessions.{newSession}
+use Rattle.model.specs.Sessions.{openingSession, permitting, checking, closing}
 use Rattle.model.proofs.Settling.{verdict}
 use Rattle.slots.specs.declared.Slots.{Slots}
-use Rattle.slots.specs.Slots.{Ruled, settleSlots, withSessionSlots}
-use Rattle.slots.specs.Terms.{slotTerms, namedIn}
-use Rattle.sessions.specs.Origins.{presentIn, memberIn, aliveIn, usableIn, usedIn}
+use Rattle.slots.specs.Slots.{withSessionSlots}
+use Rattle.parties.specs.Terms.{partyIn, slotTerms}
+use Rattle.slots.specs.Terms.{columnLent, usedIn}
 
--- ---- close
+unfoldable pub closeDecision : Slots → ℕ → Effect Slots
+closeDecision v s = ruled v (into (withSessionSlots v (v .capability)) (closing (v .session) s))
 
--- "close session. 2; 3."
-abbrev pub closeGuards : Bool → ℕ → List Guard
-closeGuards active s =
-    2 unless (isSession s ∷ [])
-    ∷ 3 unless (active ∷ [])
-    ∷ []
-
-unfoldable pub closeDecision : Slots → ℕ → Ruled
-closeDecision v s =
-    settleSlots v (closeGuards (v .session .active) s) 0 (withSessionSlots v (v .capability) blankSession)
-
--- ---- check
-
--- "check session permission. 2; 3."
-abbrev pub checkGuards : Bool → (s permission : ℕ) → List Guard
-checkGuards active s q =
-    2 unless (isSession s ∷ isPermission q ∷ [])
-    ∷ 3 unless (active ∷ [])
-    ∷ []
-
--- "1 on a role if the user is still appointed and the role's authority has the permission; on a pass if the user holds it,
--- it is not revoked, the clock is in its life and its authority has the permission": on a role x, or a capability c whose lent roles have the permissions `lent`
-abbrev pub permitTestsIn : Origin → Role → Capability → (tick lent user permission : ℕ) → List Bool
-permitTestsIn o x c tick lent user q =
-    memberIn o x c user
-    ∷ not ((slotTerms o x c lent) .revoked)
-    ∷ aliveIn o c tick
-    ∷ has ((slotTerms o x c lent) .grants) q
-    ∷ []
-
+-- the session s has the permission; x and c are the role and the capability that it may be on, `lent` is what the lent roles of c have
 unfoldable pub permitsIn : (tick : ℕ) → Session → Role → Capability → (lent permission : ℕ) → Bool
-permitsIn tick s x c lent q = each (permitTestsIn (s .on) x c tick lent (s .user) q)
+permitsIn tick s x c lent q = each (permitting tick (partyIn (s .on) x c) (slotTerms (s .on) x c lent) (s .user) q)
 
--- the answer alone, since check changes nothing: s is the session, x and c the role and the capability that it may be on
+-- the answer alone, since check changes nothing
 unfoldable pub checkAnswer : (tick : ℕ) → Session → Role → Capability → List ℕ → (n permission : ℕ) → Outcome
 checkAnswer tick s x c permissions n q =
-    verdict (checkGuards (s .active) n q) (cond (permitsIn tick s x c (joined (λ k. getD permissions k 0) (c .lent) 32) q) 1 0)
+    let a : Ruling Session = checking s (permitsIn tick s x c (columnLent permissions (c .lent)) q) n q in
+    verdict (a .guards) (a .result)
 
-abbrev pub checkDecision : Slots → List ℕ → (n permission : ℕ) → Ruled
+abbrev pub checkDecision : Slots → List ℕ → (n permission : ℕ) → Effect Slots
 checkDecision v permissions n q =
-    record { answer = checkAnswer (v .clock) (v .session) (v .role) (v .capability) permissions n q; slots = v }
+    record { answer = checkAnswer (v .clock) (v .session) (v .role) (v .capability) permissions n q; after = v }
 
--- ---- open
+-- of the terms only the masks and the revoked mark are read, so no lent role
+abbrev pub openingOn : Slots → Origin → (s user : ℕ) → Context → Ruling Session
+openingOn v o s user at =
+    openingSession (v .clock) (v .enrolled) (v .count) (v .session) (partyIn o (v .role) (v .capability)) (slotTerms o (v .role) (v .capability) 0) s user o (at .hour) (at .place) (at .device)
 
--- "6 not appointed or not a holder; 7; 8; 9; 10 uses at or above their limit."
--- Of the terms only the masks and the revoked mark are read, so no lent role
-abbrev pub admissionGuards : Slots → Origin → ℕ → Context → List Guard
-admissionGuards v o user at =
-    6 unless (memberIn o (v .role) (v .capability) user ∷ [])
-    ∷ 7 when (slotTerms o (v .role) (v .capability) 0) .revoked
-    ∷ 8 unless (aliveIn o (v .capability) (v .clock) ∷ [])
-    ∷ 9 unless (admitted (slotTerms o (v .role) (v .capability) 0) (at .hour) (at .place) (at .device) ∷ [])
-    ∷ 10 unless (usableIn o (v .capability) ∷ [])
-    ∷ []
-
--- "open session user, role or pass, number, hour place device. 2; 3; 4 session already open"
-abbrev pub openGuards : Slots → (s user : ℕ) → Named → Context → List Guard
-openGuards v s user o at =
-    2 unless (isSession s ∷ isUser user ∷ isOrigin (namedOrigin o) ∷ inContext (at .hour) (at .place) (at .device) ∷ [])
-    ∷ 3 unless (has (v .enrolled) user ∷ presentIn (namedIn o) (v .role) (v .count) ∷ [])
-    ∷ 4 when v .session .active
-    ∷ admissionGuards v (namedIn o) user at
-
--- the numbers brought into their ranges
-abbrev pub newSessionIn : ℕ → Origin → Context → Session
-newSessionIn user o at = newSession (user % 64) o (at .hour % 24) (at .place % 16) (at .device % 16)
-
-unfoldable pub openDecision : Slots → (s user : ℕ) → Named → Context → Ruled
-openDecision v s user o at =
-    settleSlots v (openGuards v s user o at) 0
-    (withSessionSlots v (usedIn (namedIn o) (v .capability)) (newSessionIn user (namedIn o) at))
+unfoldable pub openDecision : Slots → (s user : ℕ) → Named → Context → Effect Slots
+openDecision v s user o at = ruled v (into (withSessionSlots v (usedIn (namedOrigin o) (v .capability))) (openingOn v (namedOrigin o) s user at))

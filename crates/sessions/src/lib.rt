@@ -1,12 +1,13 @@
 // Sessions: open, check and close, decided over the elements that they name.
-mod origins;
-
 ghost use mathlib.Core.Path.{_≡_};
-ghost use mathlib.Core.Bool.{cond};
-ghost use Rattle.model.specs.Requests.{outcomeOf};
+ghost use mathlib.Core.Bool.{Bool, cond};
+ghost use lib.ListN.{drop};
+ghost use Prim.Native.Nat.{_%_};
+ghost use Rattle.model.specs.Requests.{outcomeOf, namedOrigin};
+ghost use Rattle.model.specs.Sessions.{newSession, checking, closing};
 ghost use Rattle.slots.specs.Checks.{checked, firstNumber};
 ghost use Rattle.slots.specs.Slots.{ruledOf};
-ghost use Rattle.sessions.specs.Sessions.{closeGuards, closeDecision, checkGuards, permitsIn, checkAnswer, checkDecision, admissionGuards, openGuards, newSessionIn, openDecision};
+ghost use Rattle.sessions.specs.Sessions.{closeDecision, permitsIn, checkAnswer, checkDecision, openingOn, openDecision};
 use masks::join;
 use masks::member;
 use model::Answer;
@@ -17,27 +18,27 @@ use model::Origin;
 use model::Refusal;
 use model::Role;
 use model::Session;
-use origins::admits;
-use origins::alive_in;
-use origins::in_context;
-use origins::member_in;
-use origins::named_range;
-use origins::present_in;
-use origins::usable_in;
-use origins::used_in;
+use parties::allowance_of;
+use parties::present_in;
 use slots::Decision;
 use slots::Slots;
 use slots::checks::Check;
 use slots::checks::first;
-use slots::terms::allowance_of;
+use slots::origins::admits;
+use slots::origins::alive_in;
+use slots::origins::in_context;
+use slots::origins::member_in;
+use slots::origins::named_range;
+use slots::origins::usable_in;
+use slots::origins::used_in;
 use slots::terms::origin_named;
 
 // ---- close
 
-fn close_check(active: bool, session: u32) -> Check
-    ensures { λ q. ⌜ checked q ≡ firstNumber (closeGuards active session) ⌝ }
+fn close_check(s: Session, session: u32) -> Check
+    ensures { λ q. ⌜ checked q ≡ firstNumber ((closing s session) .guards) ⌝ }
 {
-    let k = first(!active, Refusal::Missing, Check::Pass);
+    let k = first(!s.active, Refusal::Missing, Check::Pass);
     first(!(session < 64), Refusal::Range, k)
 }
 
@@ -45,7 +46,7 @@ pub fn decide_close(v: Slots, session: u32) -> Decision
     ensures { λ q. ⌜ ruledOf q ≡ closeDecision v session ⌝ }
 {
     let s = v.session;
-    let k = close_check(s.active, session);
+    let k = close_check(s, session);
     match k {
         Check::Refuse(why) => Decision {
             answer: Answer::Refused(why),
@@ -72,10 +73,10 @@ pub fn decide_close(v: Slots, session: u32) -> Decision
 
 // ---- check
 
-fn check_check(active: bool, session: u32, permission: u32) -> Check
-    ensures { λ q. ⌜ checked q ≡ firstNumber (checkGuards active session permission) ⌝ }
+fn check_check(s: Session, session: u32, permission: u32) -> Check
+    ensures { λ q. ⌜ ((permitted : Bool) → checked q ≡ firstNumber ((checking s permitted session permission) .guards)) ⌝ }
 {
-    let k = first(!active, Refusal::Missing, Check::Pass);
+    let k = first(!s.active, Refusal::Missing, Check::Pass);
     first(!((session < 64) & (permission < 32)), Refusal::Range, k)
 }
 
@@ -111,7 +112,7 @@ pub fn answer_check(
 ) -> Answer
     ensures { λ q. ⌜ outcomeOf q ≡ checkAnswer tick s x c (now (permissions .entry)) session permission ⌝ }
 {
-    let k = check_check(s.active, session, permission);
+    let k = check_check(s, session, permission);
     match k {
         Check::Refuse(why) => Answer::Refused(why),
         Check::Pass => {
@@ -134,8 +135,8 @@ pub fn decide_check(v: Slots, permissions: &[u32; 32], session: u32, permission:
 // ---- open
 
 // The tests of the user, the role or capability and the context; all that is named is there.
-fn admission_check(v: Slots, o: Origin, user: u32, at: Context) -> Check
-    ensures { λ q. ⌜ checked q ≡ firstNumber (admissionGuards v o user at) ⌝ }
+fn admission_check(v: Slots, o: Origin, session: u32, user: u32, at: Context) -> Check
+    ensures { λ q. ⌜ checked q ≡ firstNumber (drop 3 ((openingOn v o session user at) .guards)) ⌝ }
 {
     let x = v.role;
     let c = v.capability;
@@ -152,7 +153,7 @@ fn admission_check(v: Slots, o: Origin, user: u32, at: Context) -> Check
 }
 
 fn open_check(v: Slots, session: u32, user: u32, on: Named, at: Context) -> Check
-    ensures { λ q. ⌜ checked q ≡ firstNumber (openGuards v session user on at) ⌝ }
+    ensures { λ q. ⌜ checked q ≡ firstNumber ((openingOn v (namedOrigin on) session user at) .guards) ⌝ }
 {
     let o = origin_named(on);
     let x = v.role;
@@ -161,7 +162,7 @@ fn open_check(v: Slots, session: u32, user: u32, on: Named, at: Context) -> Chec
     let present = present_in(o, x, v.count);
     let numbered = named_range(on);
     let timely = in_context(at);
-    let k = admission_check(v, o, user, at);
+    let k = admission_check(v, o, session, user, at);
     let k = first(s.active, Refusal::Unchanged, k);
     let k = first(!(known & present), Refusal::Missing, k);
     first(
@@ -172,7 +173,7 @@ fn open_check(v: Slots, session: u32, user: u32, on: Named, at: Context) -> Chec
 }
 
 fn new_session(user: u32, o: Origin, at: Context) -> Session
-    ensures { λ q. ⌜ q ≡ newSessionIn user o at ⌝ }
+    ensures { λ q. ⌜ q ≡ newSession (user % 64) o (at .hour % 24) (at .place % 16) (at .device % 16) ⌝ }
 {
     Session {
         active: true,

@@ -10,13 +10,12 @@ use Rattle.masks.specs.Tests.{each}
 use Rattle.masks.proofs.Truth.{T→true, and-l, and-r}
 use Rattle.model.specs.declared.Refusal.{Refusal}
 use Rattle.model.specs.declared.Refusal.the-variants.{Malformed, Range, Missing, Unchanged, Domain, Forbidden, Revoked, Expired, Context, Exhausted, Exceeds, Full, Past, Image, Broken, Room}
-use Rattle.model.specs.Rulings.{value, refused, Guard, _unless_, applies, number}
+use Rattle.model.specs.Rulings.{Outcome, value, refused, Guard, _unless_, applies, number, settle}
 use Rattle.model.specs.Requests.{refusalNumber}
+use Rattle.model.proofs.Settling.{Fact, fact, Clear, verdict, clear-verdict, clear-settle, answer-refused}
 use Rattle.slots.specs.declared.checks.Check.{Check}
 use Rattle.slots.specs.declared.checks.Check.the-variants.{Pass, Refuse}
-use Rattle.slots.specs.declared.Slots.{Slots}
 use Rattle.slots.specs.Checks.{checked, firstNumber, numbered, conj, raisedOf}
-use Rattle.slots.specs.Slots.{Ruled, settleSlots}
 
 -- ---- one test of a chain, and the tests after it
 
@@ -45,6 +44,20 @@ pub test-unless : (m : ℕ) (a : Bool) (bs : List Bool) (gs : List Guard) (t : B
     → q ≡ firstNumber ((m unless (a ∷ bs)) ∷ gs)
 test-unless m a bs gs t p s e h = test (m unless (a ∷ bs)) gs t p (s ∙ ap not (conj-each a bs)) e h
 
+-- what comes after the test of the ranges need agree only where it passes
+pub test-ranged : (m : ℕ) (ts : List Bool) (gs : List Guard) (t : Bool) {q k n : ℕ} → q ≡ cond t n k → t ≡ not (each ts) → n ≡ m → (T (each ts) → k ≡ firstNumber gs)
+    → q ≡ firstNumber ((m unless ts) ∷ gs)
+unfolding firstNumber
+test-ranged m ts gs t {q} {k} {n} p s e h = p ∙ ap₂ (λ (b : Bool) (x : ℕ). cond b x k) s e ∙ cases (each ts) h
+  where
+    cases : (b : Bool) → (T b → k ≡ firstNumber gs) → cond (not b) m k ≡ cond (not b) m (firstNumber gs)
+    cases true f = f tt
+    cases false f = refl
+
+pub ranged-same : (m : ℕ) (ts : List Bool) (gs hs : List Guard) → (T (each ts) → gs ≡ hs) → firstNumber ((m unless ts) ∷ gs) ≡ firstNumber ((m unless ts) ∷ hs)
+unfolding firstNumber
+ranged-same m ts gs hs h = test-ranged m ts hs (not (each ts)) refl refl refl (λ t. ap firstNumber (h t))
+
 -- a guard whose tests the machine's types pass, so that code need not ask them
 pub known : (m : ℕ) (ts : List Bool) (gs : List Guard) {q : ℕ} → T (each ts) → q ≡ firstNumber gs → q ≡ firstNumber ((m unless ts) ∷ gs)
 unfolding firstNumber
@@ -70,35 +83,44 @@ refusal-positive Image = lit< tt
 refusal-positive Broken = lit< tt
 refusal-positive Room = lit< tt
 
-first-refused : (v w : Slots) (gs : List Guard) (n m : ℕ) → 0 < m → firstNumber gs ≡ m → settleSlots v gs n w ≡ record { answer = refused m; slots = v }
-unfolding firstNumber settleSlots
-first-refused v w [] n m l e = absurd (omega arith)
-first-refused v w (g ∷ gs) n m l e = cases (applies g) e (first-refused v w gs n m l)
+first-refused : (gs : List Guard) (n m : ℕ) → 0 < m → firstNumber gs ≡ m → verdict gs n ≡ refused m
+unfolding firstNumber
+first-refused [] n m l e = absurd (omega arith)
+first-refused (g ∷ gs) n m l e = cases (applies g) e (first-refused gs n m l)
   where
-    cases : (b : Bool) → cond b (number g) (firstNumber gs) ≡ m → (firstNumber gs ≡ m → settleSlots v gs n w ≡ record { answer = refused m; slots = v })
-        → _≡_ {A = Ruled} (elim b [ true ↦ record { answer = refused (number g); slots = v } | false ↦ settleSlots v gs n w ]) (record { answer = refused m; slots = v })
-    cases true q ih = ap (λ (x : ℕ). record { answer = refused x; slots = v }) q
+    cases : (b : Bool) → cond b (number g) (firstNumber gs) ≡ m → (firstNumber gs ≡ m → verdict gs n ≡ refused m)
+        → _≡_ {A = Outcome} (elim b [ true ↦ refused (number g) | false ↦ verdict gs n ]) (refused m)
+    cases true q ih = ap refused q
     cases false q ih = ih q
 
--- a decision that refuses
-pub refuse-ruled : (v w : Slots) (gs : List Guard) (n : ℕ) (k : Check) {why : Refusal} → checked k ≡ firstNumber gs → k ≡ Refuse why
-    → record { answer = refused (refusalNumber why); slots = v } ≡ settleSlots v gs n w
-refuse-ruled v w gs n k {why} e q = sym (first-refused v w gs n (refusalNumber why) (refusal-positive why) (sym e ∙ ap checked q))
-
-none-refused : (v w : Slots) (gs : List Guard) (n : ℕ) → T (numbered gs) → firstNumber gs ≡ 0 → settleSlots v gs n w ≡ record { answer = value n; slots = w }
-unfolding firstNumber settleSlots
-none-refused v w [] n p e = refl
-none-refused v w (g ∷ gs) n p e = cases (applies g) e (none-refused v w gs n (and-r (ltb 0 (number g)) (numbered gs) p))
+none-refused : (gs : List Guard) → T (numbered gs) → firstNumber gs ≡ 0 → Clear gs
+unfolding firstNumber
+none-refused [] p e = tt
+none-refused (g ∷ gs) p e = cases (applies g) (fact g) e (none-refused gs (and-r (ltb 0 (number g)) (numbered gs) p))
   where
-    cases : (b : Bool) → cond b (number g) (firstNumber gs) ≡ 0 → (firstNumber gs ≡ 0 → settleSlots v gs n w ≡ record { answer = value n; slots = w })
-        → _≡_ {A = Ruled} (elim b [ true ↦ record { answer = refused (number g); slots = v } | false ↦ settleSlots v gs n w ]) (record { answer = value n; slots = w })
-    cases true q ih = absurd (omega (arith, ltb→lt 0 (number g) (and-l (ltb 0 (number g)) (numbered gs) p)))
-    cases false q ih = ih q
+    cases : (b : Bool) → (T (not b) → Fact g) → cond b (number g) (firstNumber gs) ≡ 0 → (firstNumber gs ≡ 0 → Clear gs) → Fact g × Clear gs
+    cases true f q ih = absurd (omega (arith, ltb→lt 0 (number g) (and-l (ltb 0 (number g)) (numbered gs) p)))
+    cases false f q ih = (f tt, ih q)
+
+-- a check that passes: no guard applies
+pub pass-clear : (gs : List Guard) (k : Check) → T (numbered gs) → checked k ≡ firstNumber gs → k ≡ Pass → Clear gs
+pass-clear gs k p e q = none-refused gs p (sym e ∙ ap checked q)
+
+pub verdict-refused : (gs : List Guard) (n : ℕ) (k : Check) {why : Refusal} → checked k ≡ firstNumber gs → k ≡ Refuse why → refused (refusalNumber why) ≡ verdict gs n
+verdict-refused gs n k {why} e q = sym (first-refused gs n (refusalNumber why) (refusal-positive why) (sym e ∙ ap checked q))
+
+pub verdict-passed : (gs : List Guard) (n : ℕ) (k : Check) → T (numbered gs) → checked k ≡ firstNumber gs → k ≡ Pass → value n ≡ verdict gs n
+verdict-passed gs n k p e q = sym (clear-verdict gs n (pass-clear gs k p e q))
+
+-- a decision that refuses, over any state
+pub refuse-ruled : {A : Type 0} (v w : A) (gs : List Guard) (n : ℕ) (k : Check) {why : Refusal} → checked k ≡ firstNumber gs → k ≡ Refuse why
+    → record { answer = refused (refusalNumber why); after = v } ≡ settle v gs n w
+refuse-ruled v w gs n k e q = answer-refused v w gs n (sym (verdict-refused gs n k e q))
 
 -- a decision that passes
-pub pass-ruled : (v w : Slots) (gs : List Guard) (n : ℕ) (k : Check) → T (numbered gs) → checked k ≡ firstNumber gs → k ≡ Pass
-    → record { answer = value n; slots = w } ≡ settleSlots v gs n w
-pass-ruled v w gs n k p e q = sym (none-refused v w gs n p (sym e ∙ ap checked q))
+pub pass-ruled : {A : Type 0} (v w : A) (gs : List Guard) (n : ℕ) (k : Check) → T (numbered gs) → checked k ≡ firstNumber gs → k ≡ Pass
+    → record { answer = value n; after = w } ≡ settle v gs n w
+pass-ruled v w gs n k p e q = sym (clear-settle v w gs n (pass-clear gs k p e q))
 
 -- ---- numbers brought into a range, and limits
 

@@ -1,5 +1,4 @@
--- Laws of checks, of elements put back, of terms read from elements, and of what a checked call comes to.
+-- Laws of checks, of elements put back and of terms read from elements.
 pub mod CheckLaws
 pub mod SlotLaws
 pub mod TermLaws
-pub mod SettleLaws

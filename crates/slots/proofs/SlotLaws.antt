@@ -1,22 +1,26 @@
 -- Elements put back, and a call over the elements that is the call on the register.
-use mathlib.Core.Path.{_≡_, refl, sym, ap, ap₂, _∙_, subst}
-use mathlib.Core.Bool.{Bool, true, false, not}
-use mathlib.Core.List.{List, [], _∷_}
-use Prim.Native.Nat.{ℕ}
+use mathlib.Core.Path.{_≡_, refl, sym, ap, _∙_}
+use mathlib.Core.Bool.{Bool}
+use mathlib.Core.List.{List, _∷_}
+use Prim.Native.Nat.{ℕ, _%_}
 use lib.Dec.{T}
-use lib.ListN.{set}
+use lib.ListN.{set, drop}
 use lib.Seq.{set-getD}
 use Rattle.masks.specs.Tests.{each}
-use Rattle.masks.proofs.Truth.{each→}
+use Rattle.masks.proofs.Truth.{each←}
 use Rattle.model.specs.declared.Role.{Role}
 use Rattle.model.specs.declared.Capability.{Capability}
 use Rattle.model.specs.declared.Session.{Session}
 use Rattle.model.specs.declared.Register.{Register}
 use Rattle.model.specs.Setters.{withClock, withUsers, withRoles, withCapabilities, withCount, withSessions}
-use Rattle.model.specs.Rulings.{value, refused, Effect, Guard, _unless_, _when_, applies, number, settle}
-use Rattle.model.proofs.Settling.{Clear}
+use Rattle.model.specs.Rules.{isRole, isCapability}
+use Rattle.model.specs.Rulings.{Guard, _unless_, Ruling, into, settle, ruled, role, capability}
+use Rattle.model.specs.Administration.{puttingRole}
+use Rattle.model.specs.Delegation.{putting}
+use Rattle.model.proofs.Settling.{Clear, settle-past, settle-after, settle-into}
 use Rattle.slots.specs.declared.Slots.{Slots}
-use Rattle.slots.specs.Slots.{Places, look, put, settleSlots, lifted, withClockSlot, withUserSlot, withRoleSlot, withCapabilitySlot, withCreatedSlots, withSessionSlots}
+use Rattle.slots.specs.Slots.{Places, look, put, lifted, withClockSlot, withUserSlot, withRoleSlot, withCapabilitySlot, withCreatedSlots, withSessionSlots, onRole, onCapability}
+use Rattle.slots.proofs.CheckLaws.{in-range}
 
 -- ---- elements put back
 
@@ -51,48 +55,42 @@ module _ (r : Register) (p : Places) where
   put-session c s = simp set-getD
 
   -- a call over the elements, put back, is settled on the register
-  pub lift-settle : (gs : List Guard) (n : ℕ) (w : Slots) → lifted r p (settleSlots (look r p) gs n w) ≡ settle r gs n (put r p w)
-  unfolding settleSlots settle
-  lift-settle [] n w = refl
-  lift-settle (g ∷ gs) n w = cases (applies g) (lift-settle gs n w)
-    where
-      cases : (b : Bool) → lifted r p (settleSlots (look r p) gs n w) ≡ settle r gs n (put r p w)
-          → _≡_ {A = Effect} (lifted r p (elim b [ true ↦ record { answer = refused (number g); slots = look r p } | false ↦ settleSlots (look r p) gs n w ])) (elim b [ true ↦ record { answer = refused (number g); after = r } | false ↦ settle r gs n (put r p w) ])
-      cases true e = ap (λ (s : Register). record { answer = refused (number g); after = s }) put-same
-      cases false e = e
+  pub lift-settle : (gs : List Guard) (n : ℕ) (w : Slots) → lifted r p (settle (look r p) gs n w) ≡ settle r gs n (put r p w)
+  lift-settle gs n w = settle-into (put r p) (look r p) w gs n ∙ ap (λ (s : Register). settle s gs n (put r p w)) put-same
 
--- ---- two settled calls that agree
+  -- the same for rulings on any part, read from the elements (a) and from the register (b): the two need agree only where the
+  -- ranges pass, and what is put back only where no guard applies
+  pub ranged-commit : {A : Type 0} (ts : List Bool) (a b : Ruling A) (w : A → Slots) (f : A → Register)
+      → a .guards ≡ (2 unless ts) ∷ drop 1 (a .guards) → b .guards ≡ (2 unless ts) ∷ drop 1 (b .guards)
+      → (T (each ts) → a ≡ b) → (T (each ts) → Clear (drop 1 (b .guards)) → (x : A) → put r p (w x) ≡ f x)
+      → lifted r p (ruled (look r p) (into w a)) ≡ ruled r (into f b)
+  ranged-commit {A} ts a b w f ga gb same puts =
+      lift-settle (a .guards) (a .result) (w (a .after))
+      ∙ ap (λ (gs : List Guard). settle r gs (a .result) (put r p (w (a .after)))) ga
+      ∙ settle-past r (2 unless ts) _ _ _ _ _ _
+      (λ e.
+      let t : T (each ts) = each← ts e in
+      ap (λ (q : Ruling A). settle r (drop 1 (q .guards)) (q .result) (put r p (w (q .after)))) (same t)
+      ∙ settle-after r (drop 1 (b .guards)) _ _ _ _ (λ g. (refl, puts t g (b .after))))
+      ∙ sym (ap (λ (gs : List Guard). settle r gs (b .result) (f (b .after))) gb)
 
--- value and register need agree only where no guard applies
-pub settle-after : (r : Register) (gs : List Guard) (n m : ℕ) (s t : Register) → (Clear gs → (n ≡ m) × (s ≡ t)) → settle r gs n s ≡ settle r gs m t
-unfolding settle
-settle-after r [] n m s t h = ap₂ (λ (x : ℕ) (y : Register). record { answer = value x; after = y }) (h tt .0) (h tt .1)
-settle-after r (g ∷ gs) n m s t h = cases g (λ f. settle-after r gs n m s t f) h
-  where
-    cases : (q : Guard) → ((Clear gs → (n ≡ m) × (s ≡ t)) → settle r gs n s ≡ settle r gs m t) → (Clear (q ∷ gs) → (n ≡ m) × (s ≡ t))
-        → _≡_ {A = Effect} (elim (applies q) [ true ↦ record { answer = refused (number q); after = r } | false ↦ settle r gs n s ]) (elim (applies q) [ true ↦ record { answer = refused (number q); after = r } | false ↦ settle r gs m t ])
-    cases (k unless ts) ih f = by (each ts) (λ x. f) refl
-      where
-        by : (b : Bool) → (T b → Clear ((k unless ts) ∷ gs) → (n ≡ m) × (s ≡ t)) → each ts ≡ b
-            → _≡_ {A = Effect} (elim (not b) [ true ↦ record { answer = refused k; after = r } | false ↦ settle r gs n s ]) (elim (not b) [ true ↦ record { answer = refused k; after = r } | false ↦ settle r gs m t ])
-        by true g′ e = ih (λ c. g′ tt (each→ ts (subst T (sym e) tt), c))
-        by false g′ e = refl
-    cases (k when t′) ih f = by t′ f
-      where
-        by : (b : Bool) → (Clear ((k when b) ∷ gs) → (n ≡ m) × (s ≡ t))
-            → _≡_ {A = Effect} (elim b [ true ↦ record { answer = refused k; after = r } | false ↦ settle r gs n s ]) (elim b [ true ↦ record { answer = refused k; after = r } | false ↦ settle r gs m t ])
-        by true f′ = refl
-        by false f′ = ih (λ c. f′ (tt, c))
+  -- a ruling on role k, or on capability n: q says it of the element that is read, b on the register
+  pub role-commit : (k : ℕ) (ts : List Bool) (q : Role → Ruling Role) (b : Ruling Role)
+      → ((x : Role) → (q x) .guards ≡ (2 unless ts) ∷ drop 1 ((q x) .guards)) → b .guards ≡ (2 unless ts) ∷ drop 1 (b .guards)
+      → p .role ≡ k % 32 → (T (each ts) → T (isRole k)) → (T (each ts) → q (role r k) ≡ b)
+      → lifted r p (onRole (look r p) (q (role r (p .role)))) ≡ ruled r (into (puttingRole r k) b)
+  role-commit k ts q b gq gb e w same =
+      let at : T (each ts) → p .role ≡ k = λ t. e ∙ in-range k 32 (w t) in
+      ranged-commit ts (q (role r (p .role))) b (withRoleSlot (look r p)) (puttingRole r k) (gq _) gb
+      (λ t. ap (λ (j : ℕ). q (role r j)) (at t) ∙ same t)
+      (λ t g x. put-role x ∙ ap (λ (j : ℕ). puttingRole r j x) (at t))
 
--- what comes after the test of the ranges need agree only where it passes
-pub settle-ranged : (r : Register) (k : ℕ) (ts : List Bool) (gs hs : List Guard) (n m : ℕ) (s t : Register)
-    → (T (each ts) → gs ≡ hs) → (Clear ((k unless ts) ∷ hs) → (n ≡ m) × (s ≡ t))
-    → settle r ((k unless ts) ∷ gs) n s ≡ settle r ((k unless ts) ∷ hs) m t
-unfolding settle
-settle-ranged r k ts gs hs n m s t h f = guarded (each ts) refl ∙ settle-after r ((k unless ts) ∷ hs) n m s t f
-  where
-    guarded : (b : Bool) → each ts ≡ b → settle r ((k unless ts) ∷ gs) n s ≡ settle r ((k unless ts) ∷ hs) n s
-    guarded true e = ap (λ (l : List Guard). settle r ((k unless ts) ∷ l) n s) (h (subst T (sym e) tt))
-    guarded false e =
-        ap (λ (b : Bool). elim (not b) as (λ x. Effect) [ true ↦ record { answer = refused k; after = r } | false ↦ settle r gs n s ]) e
-        ∙ sym (ap (λ (b : Bool). elim (not b) as (λ x. Effect) [ true ↦ record { answer = refused k; after = r } | false ↦ settle r hs n s ]) e)
+  pub capability-commit : (n : ℕ) (ts : List Bool) (q : Capability → Ruling Capability) (b : Ruling Capability)
+      → ((c : Capability) → (q c) .guards ≡ (2 unless ts) ∷ drop 1 ((q c) .guards)) → b .guards ≡ (2 unless ts) ∷ drop 1 (b .guards)
+      → p .capability ≡ n % 256 → (T (each ts) → T (isCapability n)) → (T (each ts) → q (capability r n) ≡ b)
+      → lifted r p (onCapability (look r p) (q (capability r (p .capability)))) ≡ ruled r (into (putting r n) b)
+  capability-commit n ts q b gq gb e w same =
+      let at : T (each ts) → p .capability ≡ n = λ t. e ∙ in-range n 256 (w t) in
+      ranged-commit ts (q (capability r (p .capability))) b (withCapabilitySlot (look r p)) (putting r n) (gq _) gb
+      (λ t. ap (λ (j : ℕ). q (capability r j)) (at t) ∙ same t)
+      (λ t g c. put-capability c ∙ ap (λ (j : ℕ). putting r j c) (at t))

@@ -1,6 +1,4 @@
--- The elements at some places of a register, read and put back; a call settled over them.
-use mathlib.Core.Bool.{Bool, true, false}
-use mathlib.Core.List.{List, [], _∷_}
+-- The elements at some places of a register, read and put back.
 use Prim.Native.Nat.{ℕ}
 use lib.ListN.{getD, set}
 use Rattle.model.specs.declared.Role.{Role}
@@ -8,7 +6,7 @@ use Rattle.model.specs.declared.Capability.{Capability}
 use Rattle.model.specs.declared.Session.{Session}
 use Rattle.model.specs.declared.Register.{Register}
 use Rattle.model.specs.State.{roleAt, capabilityAt, sessionAt}
-use Rattle.model.specs.Rulings.{Outcome, value, refused, Effect, Guard, applies, number}
+use Rattle.model.specs.Rulings.{Effect, Ruling, into, ruled}
 use Rattle.model.specs.Requests.{outcomeOf}
 use Rattle.slots.specs.declared.Slots.{Slots}
 use Rattle.slots.specs.declared.Decision.{Decision}
@@ -47,23 +45,12 @@ put r p v =
       sessions = set (r .sessions) (p .session) (v .session);
     }
 
--- an answer, and the elements after it
-pub record Ruled : Type 0 where
-  pub answer : Outcome
-  pub slots : Slots
-
-abbrev pub ruledOf : Decision → Ruled
-ruledOf d = record { answer = outcomeOf (d .answer); slots = d .slots }
-
--- the first guard that applies refuses, and gives the elements back as they came
-unfoldable pub settleSlots : Slots → List Guard → ℕ → Slots → Ruled
-settleSlots v [] n w = record { answer = value n; slots = w }
-settleSlots v (g ∷ gs) n w =
-    elim (applies g) [ true ↦ record { answer = refused (number g); slots = v } | false ↦ settleSlots v gs n w ]
+abbrev pub ruledOf : Decision → Effect Slots
+ruledOf d = record { answer = outcomeOf (d .answer); after = d .slots }
 
 -- the register with the elements put back
-abbrev pub lifted : Register → Places → Ruled → Effect
-lifted r p q = record { answer = q .answer; after = put r p (q .slots) }
+abbrev pub lifted : Register → Places → Effect Slots → Effect Register
+lifted r p q = record { answer = q .answer; after = put r p (q .after) }
 
 -- ---- elements with one or two put anew
 
@@ -92,3 +79,11 @@ withCreatedSlots v n p c =
 abbrev pub withSessionSlots : Slots → Capability → Session → Slots
 withSessionSlots v c s =
     record { clock = v .clock; enrolled = v .enrolled; count = v .count; domain = v .domain; role = v .role; parent = v .parent; capability = c; session = s }
+
+-- ---- a ruling on one of them
+
+abbrev pub onRole : Slots → Ruling Role → Effect Slots
+onRole v q = ruled v (into (withRoleSlot v) q)
+
+abbrev pub onCapability : Slots → Ruling Capability → Effect Slots
+onCapability v q = ruled v (into (withCapabilitySlot v) q)

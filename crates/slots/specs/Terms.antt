@@ -1,6 +1,5 @@
 -- What an origin allows, from the elements read.
 use mathlib.Core.Path.{_≡_}
-use mathlib.Core.Bool.{false}
 use mathlib.Core.List.{List}
 use Prim.Native.Nat.{ℕ, _%_, _^_}
 use lib.Bits.{bitOr}
@@ -12,50 +11,42 @@ use Rattle.model.specs.declared.Named.{Named}
 use Rattle.model.specs.declared.Named.the-variants.{Role as nameRole, Capability as nameCapability}
 use Rattle.model.specs.declared.Role.{Role}
 use Rattle.model.specs.declared.Capability.{Capability}
-use Rattle.model.specs.State.{Terms, termsWith}
+use Rattle.model.specs.State.{Terms}
+use Rattle.model.specs.Setters.{withUses, withCreations}
+use Rattle.model.specs.Delegation.{countedOnce}
+use Rattle.model.specs.Sessions.{usedOnce}
+use Rattle.parties.specs.Terms.{slotTerms}
 use Rattle.slots.specs.declared.Slots.{Slots}
-use Rattle.slots.specs.declared.terms.Allowance.{Allowance}
+use Rattle.slots.specs.Checks.{raisedOf}
 use Rattle.slots.specs.Slots.{Places}
 
--- the terms that the program's record stands for
-abbrev pub termsIn : Allowance → Terms
-termsIn a =
-    record {
-      grants = a .grants;
-      lendable = a .lendable;
-      hours = a .hours;
-      places = a .places;
-      devices = a .devices;
-      first = a .first;
-      last = a .last;
-      use-limit = a .«use_limit»;
-      creation-limit = a .«creation_limit»;
-      hop-limit = a .«hop_limit»;
-      revoked = a .revoked;
-    }
+-- the capability that an origin is, with one use or one creation more, where that is below its limit
+abbrev pub usedTo : Origin → Capability → Capability
+usedTo (ofRole k) c = c
+usedTo (ofCapability n) c = withUses c (raisedOf (c .uses) (c .«use_limit»))
 
--- the terms of an origin: a role x, or a capability c whose lent roles have the permissions `lent`
-unfoldable pub slotTerms : Origin → Role → Capability → ℕ → Terms
-slotTerms (ofRole k) x c lent =
-    record {
-      grants = x .permissions;
-      lendable = 2 ^ (k % 32);
-      hours = x .hours;
-      places = x .places;
-      devices = x .devices;
-      first = 0;
-      last = 4294967295;
-      use-limit = 65535;
-      creation-limit = 65535;
-      hop-limit = 65535;
-      revoked = false;
-    }
-slotTerms (ofCapability n) x c lent = termsWith (bitOr (c .permissions) lent) (c .lent) c
+abbrev pub countedTo : Origin → Capability → Capability
+countedTo (ofRole k) c = c
+countedTo (ofCapability n) c = withCreations c (raisedOf (c .creations) (c .«creation_limit»))
+
+-- the same as the model has it
+abbrev pub usedIn : Origin → Capability → Capability
+usedIn (ofRole k) c = c
+usedIn (ofCapability n) c = usedOnce c
+
+abbrev pub countedIn : Origin → Capability → Capability
+countedIn (ofRole k) c = c
+countedIn (ofCapability n) c = countedOnce c
 
 -- the role or the capability that an origin is stands in its slot
 abbrev pub OriginPlaced : Places → Origin → Type 0
 OriginPlaced p (ofRole k) = p .role ≡ k % 32
 OriginPlaced p (ofCapability n) = p .parent ≡ n % 256
+
+-- the same, where a session is on it
+abbrev pub OnPlaced : Places → Origin → Type 0
+OnPlaced p (ofRole k) = p .role ≡ k % 32
+OnPlaced p (ofCapability n) = p .capability ≡ n % 256
 
 -- the permissions of the roles of a mask, joined, from the column of the roles' permissions
 abbrev pub columnLent : List ℕ → ℕ → ℕ

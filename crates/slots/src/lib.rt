@@ -1,5 +1,6 @@
 // What one call reads and writes: the few elements of the register that it names. A call is decided over these and put back.
 pub mod checks;
+pub mod origins;
 pub mod terms;
 
 use model::Answer;

@@ -79,7 +79,7 @@ newlyBy f cs i =
     (f i (rising blankCapability f i cs) (capabilityAt (rising blankCapability f i cs) i)) .revoked && not ((capabilityAt (rising blankCapability f i cs) i) .revoked)
 
 -- what a sweep comes to
-abbrev pub sweptBy : Register → Sweep → Effect
+abbrev pub sweptBy : Register → Sweep → Effect Register
 sweptBy r s =
     record {
       answer = value (valueOf s (countBelow 256 (newlyBy (sweepOne (rolesAfter (r .roles) s) s) (r .capabilities))));

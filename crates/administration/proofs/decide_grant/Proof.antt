@@ -1,11 +1,18 @@
 use borrow.Author.Needs.{needs}
 use Rattle.administration.specs.Administration.{grantDecision}
+use Rattle.model.specs.Administration.{granting}
+use Rattle.model.proofs.Settling.{passed}
+use Rattle.slots.proofs.CheckLaws.{in-range}
 use Rattle.administration.proofs.decide_grant.Statement.{statement}
 use Rattle.administration.proofs.decide_grant.Tie as tie
 
 returns : tie.Need-returns
 unfolding grantDecision
-returns c = rw (← c .before .including32 .ensures) (c .put-role .ensures _ tt (c .before .before .grant-check .ensures))
+returns c =
+    let x = c .before .before .before .before .args in
+    let q = granting (x .v .role) (x .role) (x .permission) in
+    c .put-role .ensures (q .guards) (q .after) tt (c .before .before .grant-check .ensures)
+    (λ g. rw (c .before .including32 .ensures, in-range (x .permission) 32 (passed 2 (q .guards) g .1 .0)))
 
 pub decide-grant-spec : {M : Type 1} → statement M
 decide-grant-spec = tie.close (tie.spec (λ c κs. search needs) (λ c κs. search needs) (λ c κs. search needs) returns)

@@ -2,8 +2,7 @@ use borrow.Author.Needs.{needs}
 use mathlib.Core.Path.{sym, _∙_}
 use Rattle.masks.proofs.Truth.{true→T}
 use Rattle.model.specs.Requests.{callOf}
-use Rattle.model.proofs.Settling.{step-settled}
-use Rattle.dispatch.proofs.Tasks.{broken}
+use Rattle.model.proofs.Settling.{step-settled, broken}
 use Rattle.apply.proofs.apply.Statement.{statement}
 use Rattle.apply.proofs.apply.Tie as tie
 

@@ -13,7 +13,7 @@ use Rattle.creation.proofs.plan_below.Tie as tie
 
 returns : tie.Need-returns
 unfolding below
-returns c =
+returns c = λ user o.
     let plan = c .before .before .before .before .before .before .before .before .before .before .before .args .plan in
     let a = c .before .before .before .before .before .before .before .before .before .before .before .args .a in
     rw (

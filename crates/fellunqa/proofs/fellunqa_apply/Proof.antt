@@ -1,5 +1,5 @@
 -- `fellunqa::fellunqa_apply` meets its contract.
-use mathlib.Core.Path.{_≡_, ap, _∙_}
+use mathlib.Core.Path.{_≡_, sym, ap, _∙_}
 use lib.ListN.{length}
 use borrow.Author.Needs.{needs, sfits-of}
 use borrow.Author.Tests.{not-true, not-false}
@@ -8,8 +8,8 @@ use mir.ValLaws.{toZ-ofZ}
 use lib.Dec.{T}
 use Rattle.model.specs.Rules.{wellFormed}
 use Rattle.model.specs.Entry.{entry}
+use Rattle.model.specs.declared.Request.{Request}
 use Rattle.model.specs.Requests.{callOf}
-use Rattle.dispatch.proofs.Tasks.{called, fits}
 use Rattle.fellunqa.specs.Perform.{performed}
 use Rattle.fellunqa.proofs.Laws.{leaves-by, no-image, no-line, loaded-formed, by-call}
 use Rattle.fellunqa.proofs.fellunqa_apply.Statement.{statement}
@@ -28,40 +28,41 @@ returns-2 c =
     leaves-by (a .area .now) _ _ (no-line (a .image .now) (a .line .now) (length (a .area .now)) (load .result) (load .ensures) (not-false (load .result .exact) (c .before .before .before .if1 .left)) _ (c .before .before .sole-line .ensures) (c .enum-told .given .1))
 
 -- the request of the line, on the register of the image, which keeps the rules
-formed : (c : tie.After-task-of) → T (wellFormed (c .before .before .before .before .before .before .read-checked .result .register))
+formed : (c : tie.After-parsed) → T (wellFormed (c .before .before .before .before .read-checked .result .register))
 formed c =
-    let a = c .before .before .before .before .before .before .before .before .before .before .args in
-    let load = c .before .before .before .before .before .before .read-checked in
-    loaded-formed (a .image .now) (a .line .now) (length (a .area .now)) (load .result) (load .ensures) (not-false (load .result .exact) (c .before .before .before .before .before .if1 .left))
+    let a = c .before .before .before .before .before .before .before .before .args in
+    let load = c .before .before .before .before .read-checked in
+    loaded-formed (a .image .now) (a .line .now) (length (a .area .now)) (load .result) (load .ensures) (not-false (load .result .exact) (c .before .before .before .if1 .left))
 
-comes : (c : tie.After-task-of) →
-    let a = c .before .before .before .before .before .before .before .before .before .before .args in
-    performed (length (a .area .now)) (c .before .before .before .before .before .before .read-checked .result .register) (callOf (c .before .before .parsed .given .0 .0)) ≡ entry (a .image .now) (a .line .now) (length (a .area .now))
+comes : (c : tie.After-parsed) →
+    let a = c .before .before .before .before .before .before .before .before .args in
+    performed (length (a .area .now)) (c .before .before .before .before .read-checked .result .register) (callOf (c .parsed .given .0 .0)) ≡ entry (a .image .now) (a .line .now) (length (a .area .now))
 comes c =
-    let a = c .before .before .before .before .before .before .before .before .before .before .args in
-    let load = c .before .before .before .before .before .before .read-checked in
-    by-call (a .image .now) (a .line .now) (length (a .area .now)) (load .result) (load .ensures) (not-false (load .result .exact) (c .before .before .before .before .before .if1 .left)) _ (c .before .before .before .before .sole-line .ensures) _ (c .before .before .parsed .given .1)
+    let a = c .before .before .before .before .before .before .before .before .args in
+    let load = c .before .before .before .before .read-checked in
+    by-call (a .image .now) (a .line .now) (length (a .area .now)) (load .result) (load .ensures) (not-false (load .result .exact) (c .before .before .before .if1 .left)) _ (c .before .before .sole-line .ensures) _ (c .parsed .given .1)
 
 answer-one-requires : tie.Need-answer-one-requires
-answer-one-requires c κs =
-    (formed (c .before .before .before .before), fits (c .before .before .before .before .before .before .parsed .given .0 .0) _ _ (c .before .before .before .before .task-of .ensures) (c .before .before .task .given .1))
+answer-one-requires c κs = formed (c .before .before .before .before .before)
 
 answer-any-requires : tie.Need-answer-any-requires
-answer-any-requires c κs = formed (c .before .before .before)
+answer-any-requires c κs = formed (c .before .before .before .before)
 
 returns-3 : tie.Need-returns-3
 returns-3 c =
-    let a = c .before .before .before .before .before .before .before .before .before .before .before .before .before .before .before .before .before .args in
+    let m = c .before .before .before .before .before .before .before .before in
+    let a = m .before .before .before .before .before .before .before .before .args in
     let z = c .before .before .answer-one .result in
-    let q = called (c .before .before .before .before .before .before .before .before .before .parsed .given .0 .0) _ _ (c .before .before .before .before .before .before .before .task-of .ensures) (c .before .before .before .before .before .task .given .1) in
-    let same = leaves-by (a .area .now) _ _ (ap (performed (length (a .area .now)) (c .before .before .before .before .before .before .before .before .before .before .before .before .before .read-checked .result .register)) q ∙ comes (c .before .before .before .before .before .before .before)) in
+    let q = ap (λ (x : Request). performed (length (a .area .now)) (m .before .before .before .before .read-checked .result .register) (callOf x)) (sym (c .before .before .before .before .before .request .given .1)) in
+    let same = leaves-by (a .area .now) _ _ (q ∙ comes m) in
     (toZ-ofZ w64 z (sfits-of {w = w64} {z = z} (c .before .before .answer-one .ok)) ∙ c .before .before .answer-one .ensures .0 ∙ same .0, c .before .before .answer-one .ensures .1 ∙ same .1)
 
 returns-4 : tie.Need-returns-4
 returns-4 c =
-    let a = c .before .before .before .before .before .before .before .before .before .before .before .before .before .before .before .before .args in
+    let m = c .before .before .before .before .before .before .before in
+    let a = m .before .before .before .before .before .before .before .before .args in
     let z = c .before .before .answer-any .result in
-    let same = leaves-by (a .area .now) _ _ (comes (c .before .before .before .before .before .before)) in
+    let same = leaves-by (a .area .now) _ _ (comes m) in
     (toZ-ofZ w64 z (sfits-of {w = w64} {z = z} (c .before .before .answer-any .ok)) ∙ c .before .before .answer-any .ensures .0 ∙ same .0, c .before .before .answer-any .ensures .1 ∙ same .1)
 
 pub fellunqa-apply-spec : {M : Type 1} → statement M
@@ -72,7 +73,7 @@ fellunqa-apply-spec =
     returns
     (λ c κs. search needs) (λ c. search needs) (λ c. search needs)
     returns-2
-    (λ c κs. search needs) (λ c. search needs)
+    (λ c. search needs)
     answer-one-requires
     (λ c. search needs)
     answer-any-requires

@@ -254,9 +254,9 @@ ones c =
     let names = c .before .before .before .before .before .before .before .before .before .before .before .before .before .names-of in
     let request = c .before .before .before .before .before .before .before .before .before .before .before .before .before .before .before .step4 .given in
     let fit = subst (Fits _ _) (request .1) (s .step-of .ensures) in
-    let k = keeps s (fit .1) in
-    line-done (l .r) _ _ _ (fit .2) k
-    (commit (l .r) (names .result) (user .result) (session .result) (capability .result) (role .result) (parent .result) (l .permissions) (request .0 .0) _ (c .decide .result) k (l .inv .2) (fit .0) (names .ensures)
+    let k = keeps s (fit .0) in
+    line-done (l .r) _ _ _ (fit .1) k
+    (commit (l .r) (names .result) (user .result) (session .result) (capability .result) (role .result) (parent .result) (l .permissions) (request .0 .0) _ (c .decide .result) k (l .inv .2) (names .ensures)
     (record { user = user .ensures .0; session = session .ensures .0; capability = capability .ensures .0; role = role .ensures .0; parent = parent .ensures .0 })
     (c .before .before .seen .ensures) (c .decide .ensures))
 
@@ -294,7 +294,7 @@ loop-again-5 c =
     let l = s .before .before .before .before .before .before .loop in
     let w = played s _ _ _ _ (ones d) (c .before .before .before .before .before .before .before .print6 .ensures) .1 (c .before .before .before .before .before .before .out6 .given .1) in
     let fit = subst (Fits _ _) (d .before .before .before .before .before .before .before .before .before .before .before .before .before .before .before .step4 .given .1) (s .step-of .ensures) in
-    let roles : length (l .r .roles) ≡ 32 = kept→ (l .r) (keeps s (fit .1)) .roles .amount in
+    let roles : length (l .r .roles) ≡ 32 = kept→ (l .r) (keeps s (fit .0)) .roles .amount in
     (w .0, w .1, column-put (l .permissions) (l .r .roles) _ _ (l .inv .2) (l .inv .3) roles (d .before .before .before .before .before .before .before .before .role-at .ensures .1), length-set (l .permissions) _ _ ∙ l .inv .3)
 
 -- ---- the end

@@ -8,13 +8,15 @@ use Rattle.sessions.proofs.admission_check.Tie as tie
 
 returns : tie.Need-returns
 returns c =
-    let at = c .before .before .before .before .before .before .before .before .before .before .before .before .args .at in
+    let a = c .before .before .before .before .before .before .before .before .before .before .before .before .args in
+    let at = a .at in
+    let x = a .v .role in
     let e = c .before .before .before .before .before .before .before .before .before .allowance-of .ensures in
     test-unless _ _ _ _ _ (c .first5 .ensures) (ap not (c .before .before .before .before .before .before .before .before .member-in .ensures)) refl
     (test _ _ _ (c .before .first4 .ensures) (ap (λ (t : Terms). t .revoked) e) refl
-    (test-unless _ _ _ _ _ (c .before .before .first3 .ensures) (ap not (c .before .before .before .before .before .before .before .alive-in .ensures)) refl
+    (test-unless _ _ _ _ _ (c .before .before .first3 .ensures) (ap not (c .before .before .before .before .before .before .before .alive-in .ensures x)) refl
     (test-unless _ _ _ _ _ (c .before .before .before .first2 .ensures) (ap not (c .before .before .before .before .before .before .admits .ensures ∙ ap (λ (t : Terms). admitted t (at .hour) (at .place) (at .device)) e)) refl
-    (test-unless _ _ _ _ _ (c .before .before .before .before .first .ensures) (ap not (c .before .before .before .before .before .usable-in .ensures)) refl nothing-more))))
+    (test-unless _ _ _ _ _ (c .before .before .before .before .first .ensures) (ap not (c .before .before .before .before .before .usable-in .ensures x)) refl nothing-more))))
 
 pub admission-check-spec : {M : Type 1} → statement M
 admission-check-spec =

@@ -5,7 +5,7 @@ use Rattle.sessions.proofs.check_check.Statement.{statement}
 use Rattle.sessions.proofs.check_check.Tie as tie
 
 returns : tie.Need-returns
-returns c =
+returns c = λ b.
     test-unless _ _ _ _ _ (c .first2 .ensures) refl refl
     (test-unless _ _ _ _ _ (c .before .first .ensures) refl refl nothing-more)
 

@@ -20,7 +20,7 @@ returns c =
     let start = c .before .before .before .before .before .before in
     let a = start .args in
     ap (λ (n : Register). effectOf record { answer = decide .result .answer; register = n }) (c .put-back .ensures)
-    ∙ committed (a .r) (placesOf (view .result .at)) (a .permissions .now) (a .q) (decide .result) (start .pre .0) (start .pre .1 .0) (start .pre .1 .1) (view .ensures .0)
+    ∙ committed (a .r) (placesOf (view .result .at)) (a .permissions .now) (a .q) (decide .result) (start .pre .0) (start .pre .1) (view .ensures .0)
     (decide .ensures ∙ ap (λ (v : Slots). decideOf v (a .permissions .now) (a .q)) (view .ensures .1))
 
 pub apply-one-spec : {M : Type 1} → statement M

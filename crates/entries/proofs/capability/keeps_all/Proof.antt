@@ -2,6 +2,7 @@
 -- Assumes nothing.
 use borrow.Author.Needs.{needs}
 use Rattle.masks.specs.Masks.{within}
+use Rattle.parties.specs.Terms.{termsIn}
 use Rattle.entries.specs.Limits.{capabilityWith}
 use Rattle.entries.proofs.Laws.{left-each}
 use Rattle.entries.proofs.capability.keeps_all.Statement.{statement}
@@ -10,13 +11,13 @@ use Rattle.entries.proofs.capability.keeps_all.Tie as tie
 returns : tie.Need-returns
 unfolding within
 returns c =
-    let own = c .before .before .before in
+    let own = c .before .before in
     let fits = own .before in
     let placed = fits .before in
     let ranged = placed .before in
     let a = ranged .before .before .args in
     rw (ranged .is-ranged .ensures, placed .is-earlier .ensures, fits .is-below .ensures, own .keeps-own .ensures)
-    (left-each (capabilityWith (a .enrolled) (a .founded) (a .n) (a .u) (a .made) (a .c)))
+    (left-each (capabilityWith (a .enrolled) (a .founded) (a .n) (a .there) (termsIn (a .u)) (a .made) (a .c)))
 
 pub keeps-all-spec : {M : Type 1} → statement M
 keeps-all-spec =

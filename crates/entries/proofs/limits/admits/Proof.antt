@@ -4,7 +4,7 @@ use mathlib.Core.Bool.{_&&_}
 use mathlib.Core.Path.{ap₂, _∙_}
 use borrow.Author.Needs.{needs}
 use Rattle.model.specs.State.{admitted, admittedTests}
-use Rattle.entries.specs.Limits.{asTerms}
+use Rattle.parties.specs.Terms.{termsIn}
 use Rattle.entries.proofs.Laws.{left-each}
 use Rattle.entries.proofs.limits.admits.Statement.{statement}
 use Rattle.entries.proofs.limits.admits.Tie as tie
@@ -15,7 +15,7 @@ returns c =
     let d = c .before .before .before .before in
     let a = d .before .args in
     ap₂ _&&_ (ap₂ _&&_ (d .has32 .ensures) (c .before .before .has322 .ensures)) (c .has323 .ensures)
-    ∙ left-each (admittedTests (asTerms (a .u)) (a .hour) (a .place) (a .device))
+    ∙ left-each (admittedTests (termsIn (a .u)) (a .hour) (a .place) (a .device))
 
 pub admits-spec : {M : Type 1} → statement M
 admits-spec =

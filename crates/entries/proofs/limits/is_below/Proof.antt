@@ -3,7 +3,7 @@
 use Rattle.masks.specs.Masks.{within}
 use Rattle.model.specs.State.{belowTests, claims}
 use Rattle.model.specs.State.{below}
-use Rattle.entries.specs.Limits.{asTerms}
+use Rattle.parties.specs.Terms.{termsIn}
 use Rattle.entries.proofs.Laws.{left-each}
 use Rattle.entries.proofs.limits.is_below.Statement.{statement}
 use Rattle.entries.proofs.limits.is_below.Tie as tie
@@ -12,7 +12,7 @@ returns : tie.Need-returns
 unfolding below within
 returns c =
     let a = c .before .before .before .before .before .before .before .before .before .before .before .before .before .before .before .before .before .before .before .before .before .before .before .before .before .before .before .args in
-    left-each (belowTests (claims (a .c)) (asTerms (a .u)))
+    left-each (belowTests (claims (a .c)) (termsIn (a .u)))
 
 pub is-below-spec : {M : Type 1} → statement M
 is-below-spec = tie.close (tie.spec returns)

@@ -1,10 +1,9 @@
 -- `player::step_of` meets its contract.
-use mathlib.Core.Path.{sym, ap, _∙_}
+use mathlib.Core.Path.{ap, _∙_}
 use mathlib.Core.Option.{some}
 use borrow.Author.Needs.{needs}
 use borrow.Author.Tests.{not-true, not-false}
-use Rattle.model.specs.Requests.{callOf}
-use Rattle.dispatch.proofs.Tasks.{called, fits}
+use Rattle.model.specs.Requests.{callOf, localCall}
 use Rattle.player.proofs.Laws.{line-none, line-broken, line-says}
 use Rattle.player.proofs.step.step_of.Statement.{statement}
 use Rattle.player.proofs.step.step_of.Tie as tie
@@ -22,36 +21,30 @@ returns-2 c =
 -- the line says a request q, and the register is known to keep the rules
 returns-3 : tie.Need-returns-3
 returns-3 c =
-    let t = c .before .before .before in
+    let o = c .before .before .before .before in
+    let t = o .before .before in
     let q = t .before .before in
     let p = q .before .before in
     let a = p .before .before .args in
-    (not-false (a .formed) (t .if1 .left), line-says (a .line .now) _ (p .parse .ensures) _ (q .parsed .given .1) ∙ ap (λ x. some (callOf x)) (c .before .q .given .1))
+    (not-false (a .formed) (t .if1 .left), line-says (a .line .now) _ (p .parse .ensures) _ (q .parsed .given .1) ∙ ap (λ x. some (callOf x)) (o .q .given .1) ∙ ap (λ x. some (localCall x)) (c .before .one .given .1))
 
 returns-4 : tie.Need-returns-4
 returns-4 c =
-    let k = c .before .before .before in
-    let t = k .before .before in
+    let o = c .before .before in
+    let t = o .before .before in
     let q = t .before .before in
     let p = q .before .before in
     let a = p .before .before .args in
-    let request = q .parsed .given .0 .0 in (
-      fits request _ _ (k .task-of .ensures) (c .before .task .given .1),
-      not-false (a .formed) (t .if1 .left),
-      line-says (a .line .now) _ (p .parse .ensures) _ (q .parsed .given .1) ∙ ap some (sym (called request _ _ (k .task-of .ensures) (c .before .task .given .1))),
-    )
+    (not-false (a .formed) (t .if1 .left), line-says (a .line .now) _ (p .parse .ensures) _ (q .parsed .given .1) ∙ ap (λ x. some (callOf x)) (o .q .given .1))
 
 returns-5 : tie.Need-returns-5
 returns-5 c =
-    let k = c .before .before .before in
-    let t = k .before .before in
+    let o = c .before in
+    let t = o .before .before in
     let q = t .before .before in
     let p = q .before .before in
     let a = p .before .before .args in
-    let request = q .parsed .given .0 .0 in (
-      not-false (a .formed) (t .if1 .left),
-      line-says (a .line .now) _ (p .parse .ensures) _ (q .parsed .given .1) ∙ ap some (sym (called request _ _ (k .task-of .ensures) (c .before .task2 .given .1))),
-    )
+    (not-false (a .formed) (t .if1 .left), line-says (a .line .now) _ (p .parse .ensures) _ (q .parsed .given .1) ∙ ap (λ x. some (callOf x)) (o .q2 .given .1))
 
 pub step-of-spec : {M : Type 1} → statement M
 step-of-spec =
@@ -60,8 +53,8 @@ step-of-spec =
     (λ c κs. search needs) (λ c. search needs) (λ c. search needs)
     returns
     returns-2
-    (λ c. search needs)
+    (λ c. search needs) (λ c. search needs)
     returns-3
-    (λ c κs. search needs) (λ c. search needs) (λ c. search needs)
+    (λ c. search needs)
     returns-4
     returns-5)

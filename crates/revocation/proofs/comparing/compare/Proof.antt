@@ -1,7 +1,7 @@
 -- `revocation::comparing::compare` meets its contract.
 use borrow.Author.Needs.{needs}
 use Rattle.revocation.specs.Guards.{sameAnswer}
-use Rattle.slots.proofs.SettleLaws.{verdict-refused, verdict-passed}
+use Rattle.slots.proofs.CheckLaws.{verdict-refused, verdict-passed}
 use Rattle.revocation.proofs.comparing.compare.Statement.{statement}
 use Rattle.revocation.proofs.comparing.compare.Tie as tie
 

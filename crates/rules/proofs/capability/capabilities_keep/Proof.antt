@@ -73,7 +73,8 @@ found : (c : tie.After-keeps-place Inv-loop μ-loop Inv-loop2 μ-loop2) →
     r .count ≤ 256 → c .keeps-place .result ≡ placeKeeps (r .enrolled) (r .roles) (r .count) (r .capabilities) (l .i) (capabilityAt (r .capabilities) (l .i))
 unfolding roleAuthority
 found c few =
-    let u = c .before in
+    let there = c .before in
+    let u = c .before .before in
     let lent = c .before .before .before in
     let k = c .before .before .before .before .before .before .before in
     let l = c .before .before .before .before .before .before .before .before .before .before .loop2 in
@@ -83,7 +84,7 @@ found c few =
     let r = c .before .before .before .before .before .before .before .before .before .before .before .before .before .before .before .before .before .args .t1 in
     c .keeps-place .ensures
     ∙ place-agrees (r .enrolled) (r .roles) (r .count) (r .capabilities) (l .i) (k .number-of .result) (founded .founded-roles .result) (lent .join .result) (getD table (l .i) 0)
-    (λ j. getD (permissions .role-permissions .result) j 0) (u .limits-of .result) (k .number-of .ensures) (founded .founded-roles .ensures) (permissions .role-permissions .ensures) (lent .join .ensures) (u .limits-of .ensures)
+    (λ j. getD (permissions .role-permissions .result) j 0) _ _ (k .number-of .ensures) (founded .founded-roles .ensures) (permissions .role-permissions .ensures) (lent .join .ensures) (there .present-in .ensures _) (u .allowance-of .ensures)
     (ap (λ t. getD t (l .i) 0) (l .inv .2 few) ∙ tally-at (r .capabilities) (l .i) (r .count) (omega (arith, c .before .before .before .before .before .before .before .before .before .before .before .before .before .before .before .before .before .pre)))
 
 returns : tie.Need-returns Inv-loop μ-loop Inv-loop2 μ-loop2
@@ -121,7 +122,7 @@ capabilities-keep-spec =
     loop-again
     loop2-holds
     (λ c. search needs) (λ c. search needs) (λ c κs. search needs) (λ c. search needs) (λ c. search needs) (λ c. search needs)
-    (λ c. search needs) (λ c. search needs) (λ c. search needs) (λ c κs. search needs) (λ c κs. search needs) (λ c. search needs)
+    (λ c. search needs) (λ c. search needs) (λ c. search needs) (λ c κs. search needs) (λ c κs. search needs) (λ c κs. search needs) (λ c. search needs)
     (λ c. search needs) (λ c κs. search needs)
     returns
     add-i

@@ -25,7 +25,8 @@ loop-holds c = search needs
 
 loop-again : tie.Need-loop-again Inv-loop μ-loop
 loop-again c =
-    let u = c .before in
+    let there = c .before in
+    let u = there .before in
     let k = u .before .before .before in
     let l = k .before .before .before .loop in
     let r = k .before .before .before .before .args .t1 in (
@@ -33,7 +34,7 @@ loop-again c =
       all-more (l .i) _ (l .inv .1)
           (ap (λ t. l .ok && t)
           (c .session-keeps .ensures
-          ∙ session-agrees (r .enrolled) (r .roles) (r .count) (r .capabilities) (l .i) (k .number-of .result) (sessionAt (r .sessions) (l .i)) (u .limits-of .result) (k .number-of .ensures) (u .limits-of .ensures))),
+          ∙ session-agrees (r .enrolled) (r .roles) (r .count) (r .capabilities) (l .i) (k .number-of .result) (sessionAt (r .sessions) (l .i)) _ _ (k .number-of .ensures) (there .present-in .ensures _) (u .allowance-of .ensures))),
     )
 
 returns : tie.Need-returns Inv-loop μ-loop
@@ -50,7 +51,7 @@ sessions-keep-spec =
     μ-loop
     loop-holds
     (λ c. search needs) (λ c. search needs) (λ c κs. search needs) (λ c. search needs) (λ c. search needs) (λ c. search needs)
-    (λ c. search needs) (λ c. search needs) (λ c. search needs) (λ c κs. search needs) (λ c κs. search needs) (λ c. search needs)
+    (λ c. search needs) (λ c. search needs) (λ c. search needs) (λ c κs. search needs) (λ c κs. search needs) (λ c κs. search needs) (λ c. search needs)
     (λ c. search needs)
     loop-again
     returns)

@@ -1,0 +1,2 @@
+-- What an origin allows, from the elements read.
+pub mod Terms
