@@ -1,14 +1,18 @@
--- Loops that write the items of a mask one after another: one law for what such a loop owes, over the function that writes one item.
+-- Loops that write items one after another, those of a mask or the first n: what such a loop owes.
 use mathlib.Core.Path.{_≡_}
 use mathlib.Core.List.{List, []}
 use Prim.Native.Nat.{ℕ, _+_, _-_, _/_, _%_, _≤_, _<_}
 use native.Mathlib.Omega.{arith}
-use lib.ListN.{length, drop, getD}
+use lib.ListN.{length, take, drop, getD}
 use borrow.Rule.Slice.PartMut.{putMid}
 use Rattle.masks.specs.Bytes.{front}
-use Rattle.model.specs.Image.{chosen, writeChosen}
+use Rattle.model.specs.declared.Capability.{Capability}
+use Rattle.model.specs.State.{blankCapability}
+use Rattle.model.specs.Fields.{writeCapability}
+use Rattle.model.specs.Image.{chosen, writeChosen, writeCapabilities}
 use Rattle.fields.proofs.Writing.{Writing, writing-start, writing-done}
 use Rattle.fields.proofs.Putting.{Put, Turn, turn}
+use Rattle.records.proofs.Records.{capabilities-step, capabilities-done}
 use Rattle.encoding.proofs.Turns.{chosen-step, chosen-done}
 
 -- of k items those before i are written, and m has the bits from i on
@@ -42,3 +46,29 @@ module _ {A : Type 0} {write : A → List ℕ} {k mask : ℕ} {l : List A} {s₀
 
   pub items-passed : k ≤ i → (at ≡ length (writeChosen write mask l)) × (s ≡ front (writeChosen write mask l) s₀)
   items-passed h = items-done (chosen-done write m l i (omega arith))
+
+-- of the first n capabilities those before i are written
+pub record CapabilitiesTo (n : ℕ) (cs : List Capability) (s₀ s : List ℕ) (at i : ℕ) : Type 0 where
+  pub amount : n ≤ length cs
+  pub below : i ≤ n
+  pub room : length (writeCapabilities (take n cs)) ≤ length s₀
+  pub writing : Writing (writeCapabilities (take n cs)) (writeCapabilities (drop i (take n cs))) at s s₀
+
+pub capabilities-start : {n : ℕ} {cs : List Capability} {s : List ℕ} → n ≤ length cs → length (writeCapabilities (take n cs)) ≤ length s → CapabilitiesTo n cs s s 0 0
+capabilities-start {n} {cs} {s} e h =
+    record { amount = e; below = omega arith; room = h; writing = writing-start (writeCapabilities (take n cs)) s }
+
+module _ {n : ℕ} {cs : List Capability} {s₀ s : List ℕ} {at i : ℕ} (f : CapabilitiesTo n cs s₀ s at i) where
+  abbrev capability : List ℕ
+  capability = writeCapability (getD cs i blankCapability)
+
+  pub capabilities-turn : i < n → Turn (writeCapabilities (take n cs)) capability (writeCapabilities (drop (i + 1) (take n cs))) at s s₀
+  capabilities-turn h = turn _ _ _ _ at s s₀ (f .writing) (f .room) (capabilities-step n cs i h (f .amount))
+
+  pub capabilities-next : i < n → {k : ℕ} {last : List ℕ} → Put capability at s k last → length (putMid at (length s - at) s last) ≡ length s
+      → CapabilitiesTo n cs s₀ (putMid at (length s - at) s last) (at + k) (i + 1)
+  capabilities-next h p same =
+      record { amount = f .amount; below = omega arith; room = f .room; writing = (capabilities-turn h) .step p same }
+
+  pub capabilities-passed : n ≤ i → (at ≡ length (writeCapabilities (take n cs))) × (s ≡ front (writeCapabilities (take n cs)) s₀)
+  capabilities-passed h = writing-done (writeCapabilities (take n cs)) _ at s s₀ (f .writing) (capabilities-done n cs i h (f .amount))

@@ -11,5 +11,5 @@ unfoldable pub mapped : {A : Type 0} → ℕ → (A → List ℕ) → ℕ → Li
 mapped w write m l = mapBytes w m ++ writeChosen write m l
 
 -- a count and as many capabilities
-unfoldable pub counted : ℕ → List Capability → List ℕ
-counted n cs = bytesOf 2 n ++ writeCapabilities (take n cs)
+unfoldable pub countedCapabilities : ℕ → List Capability → List ℕ
+countedCapabilities n cs = bytesOf 2 n ++ writeCapabilities (take n cs)

@@ -5,7 +5,7 @@ ghost use lib.ListN.{length};
 ghost use Rattle.masks.specs.Bytes.{bytesOf, front};
 ghost use Rattle.model.specs.Fields.{writeRole, writeSession};
 ghost use Rattle.model.specs.Image.{foundedRoles, activeSessions, encode};
-ghost use Rattle.encoding.specs.Sections.{mapped, counted};
+ghost use Rattle.encoding.specs.Sections.{mapped, countedCapabilities};
 use crate::section::active_mask;
 use crate::section::founded_mask;
 use crate::section::put_capabilities;
@@ -44,8 +44,8 @@ fn put_founded(s: &mut [u8], roles: [Role; 32]) -> usize
 
 // "pass count (2); the passes"; the bytes written.
 fn put_counted(s: &mut [u8], count: usize, capabilities: [Capability; 256]) -> usize
-    requires { ⌜ (count ≤ 256) × (length (counted count capabilities) ≤ length (now s)) ⌝ }
-    ensures { λ q. ⌜ (q ≡ length (counted count capabilities)) × (now (s .exit) ≡ front (counted count capabilities) (now (s .entry))) ⌝ }
+    requires { ⌜ (count ≤ 256) × (length (countedCapabilities count capabilities) ≤ length (now s)) ⌝ }
+    ensures { λ q. ⌜ (q ≡ length (countedCapabilities count capabilities)) × (now (s .exit) ≡ front (countedCapabilities count capabilities) (now (s .entry))) ⌝ }
 {
     put(s, 2, count as u64);
     let n = put_capabilities(&mut s[2..], capabilities, count);

@@ -5,7 +5,7 @@ use Prim.Native.Nat.{ℕ, zero, suc, _+_, _-_, _*_, _/_, _%_, _^_, _≤_, _<_}
 use native.Mathlib.Nat.{pow-suc, pow-le-pow-right, sub-zero, zero-add, add-zero}
 use native.Mathlib.Numerals.{add-one}
 use native.Mathlib.Omega.{arith}
-use lib.ListN.{length, take, drop, getD, set, replicate}
+use lib.ListN.{length, take, drop, getD, set, replicate, length-append}
 use lib.Seq.{take-suc-set, drop-set-lt, append-snoc, take-at, drop-drop, take-all}
 use lib.Arith.{digits-lt}
 use lib.Dec.{lit<}
@@ -95,7 +95,7 @@ mask-turn s at k i h hk =
     ∙ ap (λ (p : ℕ). maskOf (firstBytes (k - i) (drop p s)) * 256 + getD s (at + (i - 1)) 0) a
 
 -- xs at the front, and then ys after it
-pub two-parts : (xs ys s t last : List ℕ) (at : ℕ) → at ≡ length xs → length xs ≤ length s → t ≡ front xs s
+two-parts : (xs ys s t last : List ℕ) (at : ℕ) → at ≡ length xs → length xs ≤ length s → t ≡ front xs s
     → last ≡ front ys (take (length t - at) (drop at t)) → putMid at (length t - at) t last ≡ front (xs ++ ys) s
 two-parts xs ys s t last at ea h et el =
     let k : 0 + length xs ≤ length s = omega arith in
@@ -103,3 +103,11 @@ two-parts xs ys s t last at ea h et el =
     ∙ ap (λ (l : List ℕ). placed at ys l) et
     ∙ ap (λ (j : ℕ). placed j ys (front xs s)) (ea ∙ sym (zero-add (length xs)))
     ∙ placed-append 0 xs ys s k
+
+-- a whole of two parts, of which the first has n bytes, is written once both are
+pub parts-written : (xs ys s : List ℕ) {whole t last : List ℕ} {n q : ℕ} → whole ≡ xs ++ ys → length xs ≡ n → n + length ys ≤ length s → t ≡ front xs s
+    → (q ≡ length ys) × (last ≡ front ys (take (length t - n) (drop n t))) → (n + q ≡ length whole) × (putMid n (length t - n) t last ≡ front whole s)
+parts-written xs ys s {whole} {t} {last} {n} e en room et p = (
+  omega (arith, ap length e, length-append xs ys),
+  two-parts xs ys s t last n (sym en) (omega arith) et (p .1) ∙ ap (λ (l : List ℕ). front l s) (sym e),
+)

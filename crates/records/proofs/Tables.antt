@@ -2,11 +2,13 @@
 use mathlib.Core.Path.{_≡_, refl, sym, ap, _∙_}
 use mathlib.Core.Bool.{_&&_}
 use mathlib.Core.List.{List, _++_}
-use Prim.Native.Nat.{ℕ, _+_}
+use Prim.Native.Nat.{ℕ, _+_, _-_, _≤_}
 use native.Mathlib.Omega.{arith}
 use lib.Dec.{T, eqb, ltb}
 use lib.ListN.{length, drop, getD, length-append}
 use lib.Seq.{drop-drop}
+use borrow.Rule.Slice.PartMut.{putMid}
+use Rattle.masks.specs.Bytes.{front}
 use Rattle.model.specs.declared.Role.{Role}
 use Rattle.model.specs.declared.Capability.{Capability}
 use Rattle.model.specs.declared.Session.{Session}
@@ -14,6 +16,8 @@ use Rattle.model.specs.Fields.{Coding, fieldMap, writeAll, readAll, writePresen
 use Rattle.fields.specs.Codes.{Bytes, Fitted, codingOf, codings, narrow}
 use Rattle.records.specs.Codes.{roleCodes, sessionCodes, headCodes, capabilityCodes, writeHead, writeFields}
 use Rattle.records.specs.Exact.{exactCapability}
+use Rattle.fields.proofs.Parts.{parts-written}
+use Rattle.fields.proofs.Putting.{Put}
 use Rattle.fields.proofs.Reading.{bytes-drop, fitted-all, fitted-present}
 use Rattle.records.proofs.Records.{head-size}
 
@@ -74,19 +78,16 @@ pub head-writes : (codes values : List ℕ) (c : Capability) → codes ≡ headC
 unfolding writeHead
 head-writes codes values c e f = writes codes values headCodes (headFields c) headCodings e f (head-codes .same) (head-amount c)
 
-pub present-writes : (codes values : List ℕ) (c : Capability) → codes ≡ capabilityCodes → values ≡ capabilityFields c
-    → writePresent (codings codes) values ≡ writeFields c
-unfolding writeFields
-present-writes codes values c e f = rw (e, f, capability-codes .same)
-
 capability-amount : (c : Capability) → length capabilityCodes ≡ length (capabilityFields c)
 unfolding capabilityCodes capabilityFields
 capability-amount c = refl
 
-pub present-amount : (codes values : List ℕ) (c : Capability) → codes ≡ capabilityCodes → values ≡ capabilityFields c → length codes ≡ length values
-present-amount codes values c e f = ap length e ∙ capability-amount c ∙ sym (ap length f)
+pub present-writes : (codes values : List ℕ) (c : Capability) → codes ≡ capabilityCodes → values ≡ capabilityFields c
+    → (length codes ≡ length values) × (writePresent (codings codes) values ≡ writeFields c)
+unfolding writeFields
+present-writes codes values c e f = (ap length e ∙ capability-amount c ∙ sym (ap length f), rw (e, f, capability-codes .same))
 
-pub capability-parts : (c : Capability) → writeCapability c ≡ writeHead c ++ writeFields c
+capability-parts : (c : Capability) → writeCapability c ≡ writeHead c ++ writeFields c
 unfolding writeCapability writeHead writeFields
 capability-parts c = refl
 
@@ -96,6 +97,10 @@ head-length c = head-size c
 
 pub capability-size : (c : Capability) → length (writeCapability c) ≡ 5 + length (writeFields c)
 capability-size c = ap length (capability-parts c) ∙ length-append (writeHead c) (writeFields c) ∙ rw head-length
+
+pub capability-written : (c : Capability) (s : List ℕ) {t last : List ℕ} {n : ℕ} → 5 + length (writeFields c) ≤ length s → t ≡ front (writeHead c) s
+    → Put (writeFields c) 5 t n last → (5 + n ≡ length (writeCapability c)) × (putMid 5 (length t - 5) t last ≡ front (writeCapability c) s)
+capability-written c s = parts-written (writeHead c) (writeFields c) s (capability-parts c) (head-length c)
 
 -- ---- what the readers read
 

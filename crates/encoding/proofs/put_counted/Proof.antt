@@ -1,68 +1,36 @@
 -- `encoding::put_counted` meets its contract.
-use mathlib.Core.Path.{sym, ap, _∙_}
-use mathlib.Core.List.{List}
-use Prim.Native.Nat.{ℕ, _≤_}
 use native.Mathlib.Omega.{arith}
+use Prim.Native.Nat.{_+_, _≤_}
 use lib.ListN.{length, take}
 use Rattle.buffers.proofs.Parts.{length-tail}
-use Rattle.masks.specs.Bytes.{bytesOf, front}
 use Rattle.model.specs.Image.{writeCapabilities}
-use Rattle.fields.proofs.Numbers.{length-bytes}
-use Rattle.fields.proofs.Parts.{two-parts}
-use Rattle.encoding.proofs.Whole.{counted-parts, counted-size}
+use Rattle.encoding.proofs.Whole.{counted-size, counted-written}
 use borrow.Author.Needs.{needs}
 use Rattle.encoding.proofs.put_counted.Statement.{statement}
 use Rattle.encoding.proofs.put_counted.Tie as tie
 
-put-requires : tie.Need-put-requires
-put-requires c κs =
-    let a = c .before .before .args in
-    omega (arith, c .before .before .pre .1, counted-size (a .count) (a .capabilities))
+room : (start : tie.Start) → 2 + length (writeCapabilities (take (start .args .count) (start .args .capabilities))) ≤ length (start .args .s .now)
+room start = omega (arith, counted-size (start .args .count) (start .args .capabilities))
 
 sub-put-capabilities : tie.Need-sub-put-capabilities
-sub-put-capabilities c =
-    let a = c .before .before .before .before .before .args in
-    omega (arith, c .before .before .before .before .before .pre .1, counted-size (a .count) (a .capabilities), c .before .s .given)
-
-part-put-capabilities-start : tie.Need-part-put-capabilities-start
-part-put-capabilities-start c =
-    let a = c .before .before .before .before .before .args in
-    let h : 2 ≤ length (c .before .before .put .last .0) = omega (arith, c .before .before .before .before .before .pre .1, counted-size (a .count) (a .capabilities), c .before .s .given) in
-    search needs
-
-part-put-capabilities-end : tie.Need-part-put-capabilities-end
-part-put-capabilities-end c = search needs
-
-put-capabilities-requires : tie.Need-put-capabilities-requires
-put-capabilities-requires c κs =
-    let a = c .before .before .before .before .before .before .args in
-    (c .before .before .before .before .before .before .pre .0, rw length-tail (omega (arith, c .before .before .before .before .before .before .pre .1, counted-size (a .count) (a .capabilities), c .before .before .s .given)))
-
-add-result : tie.Need-add-result
-add-result c =
-    let a = c .before .before .before .before .before .before .before .before .before .args in
-    omega (arith, c .before .before .before .before .before .before .before .before .before .pre .1, counted-size (a .count) (a .capabilities), c .before .before .put-capabilities .ensures .0)
-
-same-length : tie.Need-same-length
-same-length c = search needs
+sub-put-capabilities c = omega (arith, room (search))
 
 returns : tie.Need-returns
 returns c =
-    let a = c .before .before .before .before .before .before .before .before .before .args in (
-      omega (arith, counted-size (a .count) (a .capabilities)),
-      two-parts (bytesOf 2 (a .count)) (writeCapabilities (take (a .count) (a .capabilities))) (a .s .now) (c .before .before .before .before .before .before .put .last .0) _ 2 (sym (length-bytes 2 (a .count))) (omega (arith, c .before .before .before .before .before .before .before .before .before .pre .1, counted-size (a .count) (a .capabilities), length-bytes 2 (a .count))) (c .before .before .before .before .before .before .put .ensures) (c .before .before .put-capabilities .ensures .1)
-          ∙ ap (λ (l : List ℕ). front l (a .s .now)) (sym (counted-parts (a .count) (a .capabilities))),
-    )
+    let after-put : tie.After-put = search in
+    let after-put-capabilities : tie.After-put-capabilities = search in
+    let start : tie.Start = search in
+    counted-written (start .args .count) (start .args .capabilities) (start .args .s .now) (room start) (after-put .put .ensures) (after-put-capabilities .put-capabilities .ensures)
 
 pub put-counted-spec : {M : Type 1} → statement M
 put-counted-spec =
     tie.close
     (tie.spec
-    put-requires
+    (λ c κs. omega (arith, room (search)))
     sub-put-capabilities
-    part-put-capabilities-start
-    part-put-capabilities-end
-    put-capabilities-requires
-    add-result
-    same-length
+    (λ c. let h = sub-put-capabilities c in search needs)
+    (λ c. search needs)
+    (λ c κs. (search, rw length-tail (omega (arith, room (search)))))
+    (λ c. omega (arith, room (search)))
+    (λ c. search needs)
     returns)

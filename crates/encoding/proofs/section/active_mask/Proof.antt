@@ -18,33 +18,26 @@ abbrev μ-loop : tie.MeasureT-loop
 loop-holds : tie.Need-loop-holds Inv-loop μ-loop
 loop-holds c = mask-start tt (search needs)
 
-sub-i : tie.Need-sub-i Inv-loop μ-loop
-sub-i c = search needs
-
-mul-x : tie.Need-mul-x Inv-loop μ-loop
-mul-x c = search needs
-
-array-copy-out-x : tie.Need-array-copy-out-x Inv-loop μ-loop
-array-copy-out-x c = search needs
-
 mul-m : tie.Need-mul-m Inv-loop μ-loop
-mul-m c = omega (arith, mask-fits (c .before .before .loop .inv) (c .before .loop-test .taken) blankSession refl)
-
-bit-of-requires : tie.Need-bit-of-requires Inv-loop μ-loop
-bit-of-requires c κs = search needs
+mul-m c =
+    let in-loop : tie.In-loop Inv-loop μ-loop = search in
+    let at-loop : tie.At-loop Inv-loop μ-loop = search in
+    omega (arith, mask-fits (at-loop .loop .inv) (in-loop .loop-test .taken) blankSession refl)
 
 add-m : tie.Need-add-m Inv-loop μ-loop
-add-m c = omega (arith, mask-fits (c .before .before .before .loop .inv) (c .before .before .loop-test .taken) blankSession (c .bit-of .ensures))
-
-loop-less : tie.Need-loop-less Inv-loop μ-loop
-loop-less c = search needs
+add-m c =
+    let in-loop : tie.In-loop Inv-loop μ-loop = search in
+    let at-loop : tie.At-loop Inv-loop μ-loop = search in
+    omega (arith, mask-fits (at-loop .loop .inv) (in-loop .loop-test .taken) blankSession (c .bit-of .ensures))
 
 loop-again : tie.Need-loop-again Inv-loop μ-loop
-loop-again c = mask-step (c .before .before .before .loop .inv) (c .before .before .loop-test .taken) blankSession (c .bit-of .ensures)
+loop-again c = mask-step (search) (search) blankSession (search)
 
 returns : tie.Need-returns Inv-loop μ-loop
 unfolding activeSessions
-returns c = mask-done (c .before .loop .inv) (c .loop-test .left)
+returns c =
+    let at-loop : tie.At-loop Inv-loop μ-loop = search in
+    mask-done (at-loop .loop .inv) (c .loop-test .left)
 
 pub active-mask-spec : {M : Type 1} → statement M
 active-mask-spec =
@@ -53,12 +46,12 @@ active-mask-spec =
     Inv-loop
     μ-loop
     loop-holds
-    sub-i
-    mul-x
-    array-copy-out-x
+    (λ c. search needs)
+    (λ c. search needs)
+    (λ c. search needs)
     mul-m
-    bit-of-requires
+    (λ c κs. search needs)
     add-m
-    loop-less
+    (λ c. search needs)
     loop-again
     returns)

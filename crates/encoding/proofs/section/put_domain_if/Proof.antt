@@ -8,19 +8,18 @@ use borrow.Author.Needs.{needs}
 use Rattle.encoding.proofs.section.put_domain_if.Statement.{statement}
 use Rattle.encoding.proofs.section.put_domain_if.Tie as tie
 
-returns : tie.Need-returns
-returns c = search needs
-
 put-requires : tie.Need-put-requires
 put-requires c κs =
-    omega (arith, c .before .before .before .pre, ap length (chosen-set (c .before .before .before .args .bit) (bytesOf 1 (c .before .before .before .args .d)) (c .before .if1 .left)))
-
-same-length : tie.Need-same-length
-same-length c = search needs
+    let start : tie.Start = search in
+    let else1 : tie.Else1 = search in
+    omega (arith, ap length (chosen-set (start .args .bit) (bytesOf 1 (start .args .d)) (else1 .if1 .left)))
 
 returns-2 : tie.Need-returns-2
 returns-2 c =
-    rw (chosen-set (c .before .before .before .before .before .before .args .bit) (bytesOf 1 (c .before .before .before .before .before .before .args .d)) (c .before .before .before .before .if1 .left)) (refl, c .before .before .put .ensures)
+    let start : tie.Start = search in
+    let after-put : tie.After-put = search in
+    let else1 : tie.Else1 = search in
+    rw (chosen-set (start .args .bit) (bytesOf 1 (start .args .d)) (else1 .if1 .left)) (refl, after-put .put .ensures)
 
 pub put-domain-if-spec : {M : Type 1} → statement M
-put-domain-if-spec = tie.close (tie.spec returns put-requires same-length returns-2)
+put-domain-if-spec = tie.close (tie.spec (λ c. search needs) put-requires (λ c. search needs) returns-2)

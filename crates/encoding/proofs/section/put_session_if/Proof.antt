@@ -8,19 +8,18 @@ use borrow.Author.Needs.{needs}
 use Rattle.encoding.proofs.section.put_session_if.Statement.{statement}
 use Rattle.encoding.proofs.section.put_session_if.Tie as tie
 
-returns : tie.Need-returns
-returns c = search needs
-
 put-session-requires : tie.Need-put-session-requires
 put-session-requires c κs =
-    omega (arith, c .before .before .before .pre, ap length (chosen-set (c .before .before .before .args .bit) (writeSession (c .before .before .before .args .x)) (c .before .if1 .left)))
-
-same-length : tie.Need-same-length
-same-length c = search needs
+    let start : tie.Start = search in
+    let else1 : tie.Else1 = search in
+    omega (arith, ap length (chosen-set (start .args .bit) (writeSession (start .args .x)) (else1 .if1 .left)))
 
 returns-2 : tie.Need-returns-2
 returns-2 c =
-    rw (chosen-set (c .before .before .before .before .before .before .args .bit) (writeSession (c .before .before .before .before .before .before .args .x)) (c .before .before .before .before .if1 .left)) (c .before .before .put-session .ensures)
+    let start : tie.Start = search in
+    let after-put-session : tie.After-put-session = search in
+    let else1 : tie.Else1 = search in
+    rw (chosen-set (start .args .bit) (writeSession (start .args .x)) (else1 .if1 .left)) (after-put-session .put-session .ensures)
 
 pub put-session-if-spec : {M : Type 1} → statement M
-put-session-if-spec = tie.close (tie.spec returns put-session-requires same-length returns-2)
+put-session-if-spec = tie.close (tie.spec (λ c. search needs) put-session-requires (λ c. search needs) returns-2)

@@ -19,38 +19,33 @@ abbrev μ-loop : tie.MeasureT-loop
 
 loop-holds : tie.Need-loop-holds Inv-loop μ-loop
 loop-holds c =
-    let v = c .before .args .values .now in (omega arith, sym (ap fieldMap (drop-of-length-le v {i = length v} (omega arith))), c .before .pre)
-
-sub-i : tie.Need-sub-i Inv-loop μ-loop
-sub-i c = search needs
+    let start : tie.Start Inv-loop μ-loop = search in
+    let v = start .args .values .now in (omega arith, sym (ap fieldMap (drop-of-length-le v {i = length v} (omega arith))), start .pre)
 
 mul-m : tie.Need-mul-m Inv-loop μ-loop
 mul-m c =
-    omega (arith, map-below (c .before .before .before .args .values .now) (c .before .loop .i) (c .before .loop .inv .2))
-
-mul-is-set : tie.Need-mul-is-set Inv-loop μ-loop
-mul-is-set c = search needs
-
-shared-slice-read-is-set : tie.Need-shared-slice-read-is-set Inv-loop μ-loop
-shared-slice-read-is-set c = search needs
-
-is-set-requires : tie.Need-is-set-requires Inv-loop μ-loop
-is-set-requires c κs = search needs
+    let start : tie.Start Inv-loop μ-loop = search in
+    let at-loop : tie.At-loop Inv-loop μ-loop = search in
+    omega (arith, map-below (start .args .values .now) (at-loop .loop .i) (search))
 
 add-m : tie.Need-add-m Inv-loop μ-loop
 add-m c =
-    omega (arith, map-below (c .before .before .before .before .before .args .values .now) (c .before .before .before .loop .i) (c .before .before .before .loop .inv .2), isSet-le (getD (c .before .before .before .before .before .args .values .now) (c .before .before .before .loop .i - 1) 0))
-
-loop-less : tie.Need-loop-less Inv-loop μ-loop
-loop-less c = search needs
+    let start : tie.Start Inv-loop μ-loop = search in
+    let at-loop : tie.At-loop Inv-loop μ-loop = search in
+    omega (arith, map-below (start .args .values .now) (at-loop .loop .i) (search), isSet-le (getD (start .args .values .now) (at-loop .loop .i - 1) 0))
 
 loop-again : tie.Need-loop-again Inv-loop μ-loop
 loop-again c =
-    (omega arith, omega (arith, map-step (c .before .before .before .before .before .args .values .now) (c .before .before .before .loop .i) (c .before .before .loop-test .taken) (c .before .before .before .loop .inv .0)), c .before .before .before .loop .inv .2)
+    let start : tie.Start Inv-loop μ-loop = search in
+    let in-loop : tie.In-loop Inv-loop μ-loop = search in
+    let at-loop : tie.At-loop Inv-loop μ-loop = search in
+    (omega arith, omega (arith, map-step (start .args .values .now) (at-loop .loop .i) (in-loop .loop-test .taken) (search)), at-loop .loop .inv .2)
 
 returns : tie.Need-returns Inv-loop μ-loop
 returns c =
-    c .before .loop .inv .1 ∙ ap (λ (i : ℕ). fieldMap (drop i (c .before .before .before .args .values .now))) (le-zero (c .loop-test .left))
+    let start : tie.Start Inv-loop μ-loop = search in
+    let at-loop : tie.At-loop Inv-loop μ-loop = search in
+    at-loop .loop .inv .1 ∙ ap (λ (i : ℕ). fieldMap (drop i (start .args .values .now))) (le-zero (c .loop-test .left))
 
 pub field-map-spec : {M : Type 1} → statement M
 field-map-spec =
@@ -59,12 +54,12 @@ field-map-spec =
     Inv-loop
     μ-loop
     loop-holds
-    sub-i
+    (λ c. search needs)
     mul-m
-    mul-is-set
-    shared-slice-read-is-set
-    is-set-requires
+    (λ c. search needs)
+    (λ c. search needs)
+    (λ c κs. search needs)
     add-m
-    loop-less
+    (λ c. search needs)
     loop-again
     returns)

@@ -9,7 +9,7 @@ returns : tie.Need-returns
 returns c = sym (ap isSet (c .if1 .taken))
 
 returns-2 : tie.Need-returns-2
-returns-2 c = sym (isSet-pos (c .before .args .v) (c .if1 .left))
+returns-2 c = sym (isSet-pos (search) (search))
 
 pub is-set-spec : {M : Type 1} → statement M
 is-set-spec = tie.close (tie.spec returns returns-2)

@@ -12,49 +12,43 @@ use borrow.Author.Needs.{needs}
 use Rattle.fields.proofs.field.put_field.Statement.{statement}
 use Rattle.fields.proofs.field.put_field.Tie as tie
 
-sub-put-map : tie.Need-sub-put-map
-sub-put-map c = search needs
-
 put-map-requires : tie.Need-put-map-requires
 put-map-requires c κs =
-    let a = c .before .before .before .args in
-    let e : written (codingOf (a .code)) (a .v) ≡ mapBytes (a .code - 16) (a .v) = ap (λ (k : Coding). written k (a .v)) (code-map (a .code) (c .before .if1 .taken)) in
+    let start : tie.Start = search in
+    let a = start .args in
+    let e : written (codingOf (a .code)) (a .v) ≡ mapBytes (a .code - 16) (a .v) = ap (λ (k : Coding). written k (a .v)) (code-map (a .code) (search)) in
     omega (arith, ap length e, length-map (a .code - 16) (a .v))
-
-sub-result : tie.Need-sub-result
-sub-result c = search needs
-
-same-length : tie.Need-same-length
-same-length c = search needs
 
 returns : tie.Need-returns
 returns c =
-    let a = c .before .before .before .before .before .before .args in
-    let e : written (codingOf (a .code)) (a .v) ≡ mapBytes (a .code - 16) (a .v) = ap (λ (k : Coding). written k (a .v)) (code-map (a .code) (c .before .before .before .before .if1 .taken)) in
-    rw e (sym (length-map (a .code - 16) (a .v)), c .before .before .put-map .ensures)
+    let start : tie.Start = search in
+    let after-put-map : tie.After-put-map = search in
+    let a = start .args in
+    let e : written (codingOf (a .code)) (a .v) ≡ mapBytes (a .code - 16) (a .v) = ap (λ (k : Coding). written k (a .v)) (code-map (a .code) (search)) in
+    rw e (sym (length-map (a .code - 16) (a .v)), after-put-map .put-map .ensures)
 
 put-requires : tie.Need-put-requires
 put-requires c κs =
-    let a = c .before .before .before .args in
-    omega (arith, ap length (code-written (a .code) (a .v) (c .before .if1 .left)), length-bytes (a .code) (a .v))
-
-same-length-2 : tie.Need-same-length-2
-same-length-2 c = search needs
+    let start : tie.Start = search in
+    let a = start .args in
+    omega (arith, ap length (code-written (a .code) (a .v) (search)), length-bytes (a .code) (a .v))
 
 returns-2 : tie.Need-returns-2
 returns-2 c =
-    let a = c .before .before .before .before .before .before .args in
-    rw (code-written (a .code) (a .v) (c .before .before .before .before .if1 .left)) (sym (length-bytes (a .code) (a .v)), c .before .before .put .ensures)
+    let start : tie.Start = search in
+    let after-put : tie.After-put = search in
+    let a = start .args in
+    rw (code-written (a .code) (a .v) (search)) (sym (length-bytes (a .code) (a .v)), after-put .put .ensures)
 
 pub put-field-spec : {M : Type 1} → statement M
 put-field-spec =
     tie.close
     (tie.spec
-    sub-put-map
+    (λ c. search needs)
     put-map-requires
-    sub-result
-    same-length
+    (λ c. search needs)
+    (λ c. search needs)
     returns
     put-requires
-    same-length-2
+    (λ c. search needs)
     returns-2)

@@ -13,50 +13,32 @@ Inv-loop s₀ codes values at₀ i₀ s at i = FieldsTo each-present codes value
 abbrev μ-loop : tie.MeasureT-loop
 μ-loop s₀ codes values at₀ i₀ s at i = length codes - i
 
-loop-holds : tie.Need-loop-holds Inv-loop μ-loop
-loop-holds c = fields-start (c .before .before .before .pre)
-
-sub-put-set : tie.Need-sub-put-set Inv-loop μ-loop
-sub-put-set c = search needs
-
-part-put-set-start : tie.Need-part-put-set-start Inv-loop μ-loop
-part-put-set-start c = search needs
-
-part-put-set-end : tie.Need-part-put-set-end Inv-loop μ-loop
-part-put-set-end c = search needs
-
-shared-slice-read-put-set : tie.Need-shared-slice-read-put-set Inv-loop μ-loop
-shared-slice-read-put-set c = search needs
-
 cast-put-set : tie.Need-cast-put-set Inv-loop μ-loop
-cast-put-set c = omega (arith, c .shared-slice-known3 .given (c .before .before .before .loop .i))
-
-mul-put-set : tie.Need-mul-put-set Inv-loop μ-loop
-mul-put-set c = search needs
-
-shared-slice-read-put-set-2 : tie.Need-shared-slice-read-put-set-2 Inv-loop μ-loop
-shared-slice-read-put-set-2 c = search needs
+cast-put-set c =
+    let at-loop : tie.At-loop Inv-loop μ-loop = search in
+    omega (arith, c .shared-slice-known3 .given (at-loop .loop .i))
 
 put-set-requires : tie.Need-put-set-requires Inv-loop μ-loop
-put-set-requires c κs = (fields-turn (c .before .before .before .before .loop .inv) (c .before .before .before .loop-test .taken)) .fits
+put-set-requires c κs =
+    let at-loop : tie.At-loop Inv-loop μ-loop = search in
+    (fields-turn (at-loop .loop .inv) (search)) .fits
 
 add-at : tie.Need-add-at Inv-loop μ-loop
-add-at c = omega (arith, (fields-turn (c .before .before .before .before .before .before .before .loop .inv) (c .before .before .before .before .before .before .loop-test .taken)) .within (c .before .before .put-set .ensures .0))
-
-add-i : tie.Need-add-i Inv-loop μ-loop
-add-i c = search needs
-
-loop-less : tie.Need-loop-less Inv-loop μ-loop
-loop-less c = search needs
+add-at c =
+    let after-put-set : tie.After-put-set Inv-loop μ-loop = search in
+    let at-loop : tie.At-loop Inv-loop μ-loop = search in
+    omega (arith, (fields-turn (at-loop .loop .inv) (search)) .within (after-put-set .put-set .ensures .0))
 
 loop-again : tie.Need-loop-again Inv-loop μ-loop
-loop-again c = fields-step (c .before .before .before .before .before .before .before .loop .inv) (c .before .before .before .before .before .before .loop-test .taken) (c .before .before .put-set .ensures) (c .before .s .given .1)
-
-same-length : tie.Need-same-length Inv-loop μ-loop
-same-length c = c .before .loop .inv .writing .same
+loop-again c =
+    let after-put-set : tie.After-put-set Inv-loop μ-loop = search in
+    let at-loop : tie.At-loop Inv-loop μ-loop = search in
+    fields-step (at-loop .loop .inv) (search) (after-put-set .put-set .ensures) (search)
 
 returns : tie.Need-returns Inv-loop μ-loop
-returns c = fields-done (c .before .loop .inv) (c .loop-test .left)
+returns c =
+    let at-loop : tie.At-loop Inv-loop μ-loop = search in
+    fields-done (at-loop .loop .inv) (search)
 
 pub put-present-spec : {M : Type 1} → statement M
 put-present-spec =
@@ -64,18 +46,18 @@ put-present-spec =
     (tie.spec
     Inv-loop
     μ-loop
-    loop-holds
-    sub-put-set
-    part-put-set-start
-    part-put-set-end
-    shared-slice-read-put-set
+    (λ c. search needs)
+    (λ c. search needs)
+    (λ c. search needs)
+    (λ c. search needs)
+    (λ c. search needs)
     cast-put-set
-    mul-put-set
-    shared-slice-read-put-set-2
+    (λ c. search needs)
+    (λ c. search needs)
     put-set-requires
     add-at
-    add-i
-    loop-less
+    (λ c. search needs)
+    (λ c. search needs)
     loop-again
-    same-length
+    (λ c. search needs)
     returns)

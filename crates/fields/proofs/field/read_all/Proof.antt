@@ -22,55 +22,42 @@ Inv-loop s from codes out₀ at₀ i₀ out at i =
 abbrev μ-loop : tie.MeasureT-loop
 μ-loop s from codes out₀ at₀ i₀ out at i = length codes - i
 
-loop-holds : tie.Need-loop-holds Inv-loop μ-loop
-loop-holds c = (omega arith, refl, omega arith, refl)
-
-shared-slice-read-code : tie.Need-shared-slice-read-code Inv-loop μ-loop
-shared-slice-read-code c = search needs
-
 cast-code : tie.Need-cast-code Inv-loop μ-loop
-cast-code c = omega (arith, c .shared-slice-known3 .given (c .before .before .loop .i))
+cast-code c =
+    let at-loop : tie.At-loop Inv-loop μ-loop = search in
+    omega (arith, c .shared-slice-known3 .given (at-loop .loop .i))
 
 read-field-requires : tie.Need-read-field-requires Inv-loop μ-loop
 read-field-requires c κs =
-    omega (arith, narrow-at (c .before .before .before .before .before .before .args .codes .now) (c .before .before .loop .i) (c .before .before .before .before .before .before .pre .3) (omega arith))
-
-mul-out : tie.Need-mul-out Inv-loop μ-loop
-mul-out c = search needs
-
-slice-write-out : tie.Need-slice-write-out Inv-loop μ-loop
-slice-write-out c = search needs
-
-width-of-requires : tie.Need-width-of-requires Inv-loop μ-loop
-width-of-requires c κs = search needs
+    let start : tie.Start Inv-loop μ-loop = search in
+    let at-loop : tie.At-loop Inv-loop μ-loop = search in
+    omega (arith, narrow-at (start .args .codes .now) (at-loop .loop .i) (search) (omega arith))
 
 add-at : tie.Need-add-at Inv-loop μ-loop
 add-at c =
-    omega (arith, narrow-at (c .before .before .before .before .before .before .before .before .args .codes .now) (c .before .before .before .before .loop .i) (c .before .before .before .before .before .before .before .before .pre .3) (omega arith))
-
-add-i : tie.Need-add-i Inv-loop μ-loop
-add-i c = search needs
-
-loop-less : tie.Need-loop-less Inv-loop μ-loop
-loop-less c = search needs
+    let start : tie.Start Inv-loop μ-loop = search in
+    let at-loop : tie.At-loop Inv-loop μ-loop = search in
+    omega (arith, narrow-at (start .args .codes .now) (at-loop .loop .i) (search) (omega arith))
 
 loop-again : tie.Need-loop-again Inv-loop μ-loop
 loop-again c =
-    let a = c .before .before .before .before .before .before .before .before .args in
-    let l = c .before .before .before .before .loop in (
+    let start : tie.Start Inv-loop μ-loop = search in
+    let after-read-field : tie.After-read-field Inv-loop μ-loop = search in
+    let at-loop : tie.At-loop Inv-loop μ-loop = search in
+    let a = start .args in
+    let l = at-loop .loop in (
       omega arith,
-      read-turn (a .codes .now) (l .i) (omega arith) (l .out) (a .s .now) (l .at) (c .before .read-field .result) (c .width-of .result) _ (omega arith) (c .before .read-field .ensures) (c .width-of .ensures) (l .inv .1),
-      omega (arith, narrow-at (a .codes .now) (l .i) (c .before .before .before .before .before .before .before .before .pre .3) (omega arith)),
+      read-turn (a .codes .now) (l .i) (omega arith) (l .out) (a .s .now) (l .at) (after-read-field .read-field .result) (c .width-of .result) _ (omega arith) (search) (c .width-of .ensures) (l .inv .1),
+      omega (arith, narrow-at (a .codes .now) (l .i) (search) (omega arith)),
       simp length-set (l .inv .3),
     )
 
-same-length : tie.Need-same-length Inv-loop μ-loop
-same-length c = c .before .loop .inv .3
-
 returns : tie.Need-returns Inv-loop μ-loop
 returns c =
-    let codes = c .before .before .before .before .before .args .codes .now in
-    let l = c .before .loop in
+    let start : tie.Start Inv-loop μ-loop = search in
+    let at-loop : tie.At-loop Inv-loop μ-loop = search in
+    let codes = start .args .codes .now in
+    let l = at-loop .loop in
     let e : drop (l .i) codes ≡ [] = drop-of-length-le codes {i = l .i} (omega arith) in
     sym (fill-done (l .out) (l .i) (omega arith)) ∙ (rw e at (l .inv .1))
 
@@ -80,16 +67,16 @@ read-all-spec =
     (tie.spec
     Inv-loop
     μ-loop
-    loop-holds
-    shared-slice-read-code
+    (λ c. search needs)
+    (λ c. search needs)
     cast-code
     read-field-requires
-    mul-out
-    slice-write-out
-    width-of-requires
+    (λ c. search needs)
+    (λ c. search needs)
+    (λ c κs. search needs)
     add-at
-    add-i
-    loop-less
+    (λ c. search needs)
+    (λ c. search needs)
     loop-again
-    same-length
+    (λ c. search needs)
     returns)

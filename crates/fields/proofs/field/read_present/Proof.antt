@@ -22,59 +22,43 @@ Inv-loop s from map codes out₀ at₀ m₀ i₀ out at m i =
 abbrev μ-loop : tie.MeasureT-loop
 μ-loop s from map codes out₀ at₀ m₀ i₀ out at m i = length codes - i
 
-loop-holds : tie.Need-loop-holds Inv-loop μ-loop
-loop-holds c = (omega arith, refl, omega arith, refl)
-
-shared-slice-read-code : tie.Need-shared-slice-read-code Inv-loop μ-loop
-shared-slice-read-code c = search needs
-
 cast-code : tie.Need-cast-code Inv-loop μ-loop
-cast-code c = omega (arith, c .shared-slice-known3 .given (c .before .before .loop .i))
+cast-code c =
+    let at-loop : tie.At-loop Inv-loop μ-loop = search in
+    omega (arith, c .shared-slice-known3 .given (at-loop .loop .i))
 
 read-set-requires : tie.Need-read-set-requires Inv-loop μ-loop
 read-set-requires c κs =
-    omega (arith, narrow-at (c .before .before .before .before .before .before .args .codes .now) (c .before .before .loop .i) (c .before .before .before .before .before .before .pre .3) (omega arith))
-
-mul-out : tie.Need-mul-out Inv-loop μ-loop
-mul-out c = search needs
-
-slice-write-out : tie.Need-slice-write-out Inv-loop μ-loop
-slice-write-out c = search needs
-
-width-of-requires : tie.Need-width-of-requires Inv-loop μ-loop
-width-of-requires c κs = search needs
-
-if-set-requires : tie.Need-if-set-requires Inv-loop μ-loop
-if-set-requires c κs = search needs
+    let start : tie.Start Inv-loop μ-loop = search in
+    let at-loop : tie.At-loop Inv-loop μ-loop = search in
+    omega (arith, narrow-at (start .args .codes .now) (at-loop .loop .i) (search) (omega arith))
 
 add-at : tie.Need-add-at Inv-loop μ-loop
 add-at c =
-    omega (arith, narrow-at (c .before .before .before .before .before .before .before .before .before .args .codes .now) (c .before .before .before .before .before .loop .i) (c .before .before .before .before .before .before .before .before .before .pre .3) (omega arith))
-
-add-i : tie.Need-add-i Inv-loop μ-loop
-add-i c = search needs
-
-loop-less : tie.Need-loop-less Inv-loop μ-loop
-loop-less c = search needs
+    let start : tie.Start Inv-loop μ-loop = search in
+    let at-loop : tie.At-loop Inv-loop μ-loop = search in
+    omega (arith, narrow-at (start .args .codes .now) (at-loop .loop .i) (search) (omega arith))
 
 loop-again : tie.Need-loop-again Inv-loop μ-loop
 loop-again c =
-    let a = c .before .before .before .before .before .before .before .before .before .args in
-    let l = c .before .before .before .before .before .loop in
+    let start : tie.Start Inv-loop μ-loop = search in
+    let after-read-set : tie.After-read-set Inv-loop μ-loop = search in
+    let at-loop : tie.At-loop Inv-loop μ-loop = search in
+    let a = start .args in
+    let l = at-loop .loop in
     let n : c .if-set .result ≡ l .m % 2 * width (codingOf (getD (a .codes .now) (l .i) 0)) = cc in (
       omega arith,
-      read-present-turn (a .codes .now) (l .i) (omega arith) (l .out) (a .s .now) (l .m) (l .at) (c .before .before .read-set .result) (c .if-set .result) _ (omega arith) (c .before .before .read-set .ensures) n (l .inv .1),
-      omega (arith, narrow-at (a .codes .now) (l .i) (c .before .before .before .before .before .before .before .before .before .pre .3) (omega arith)),
+      read-present-turn (a .codes .now) (l .i) (omega arith) (l .out) (a .s .now) (l .m) (l .at) (after-read-set .read-set .result) (c .if-set .result) _ (omega arith) (after-read-set .read-set .ensures) n (l .inv .1),
+      omega (arith, narrow-at (a .codes .now) (l .i) (search) (omega arith)),
       simp length-set (l .inv .3),
     )
 
-same-length : tie.Need-same-length Inv-loop μ-loop
-same-length c = c .before .loop .inv .3
-
 returns : tie.Need-returns Inv-loop μ-loop
 returns c =
-    let codes = c .before .before .before .before .before .args .codes .now in
-    let l = c .before .loop in
+    let start : tie.Start Inv-loop μ-loop = search in
+    let at-loop : tie.At-loop Inv-loop μ-loop = search in
+    let codes = start .args .codes .now in
+    let l = at-loop .loop in
     let e : drop (l .i) codes ≡ [] = drop-of-length-le codes {i = l .i} (omega arith) in
     sym (fill-done (l .out) (l .i) (omega arith)) ∙ (rw e at (l .inv .1))
 
@@ -84,17 +68,17 @@ read-present-spec =
     (tie.spec
     Inv-loop
     μ-loop
-    loop-holds
-    shared-slice-read-code
+    (λ c. search needs)
+    (λ c. search needs)
     cast-code
     read-set-requires
-    mul-out
-    slice-write-out
-    width-of-requires
-    if-set-requires
+    (λ c. search needs)
+    (λ c. search needs)
+    (λ c κs. search needs)
+    (λ c κs. search needs)
     add-at
-    add-i
-    loop-less
+    (λ c. search needs)
+    (λ c. search needs)
     loop-again
-    same-length
+    (λ c. search needs)
     returns)

@@ -7,17 +7,16 @@ use borrow.Author.Needs.{needs}
 use Rattle.fields.proofs.number.byte_at.Statement.{statement}
 use Rattle.fields.proofs.number.byte_at.Tie as tie
 
-shared-slice-read-result : tie.Need-shared-slice-read-result
-shared-slice-read-result c = search needs
-
 cast-result : tie.Need-cast-result
-cast-result c = omega (arith, c .shared-slice-known .given (c .before .before .args .i))
+cast-result c = omega (arith, c .shared-slice-known .given (search))
 
 returns : tie.Need-returns
-returns c = (refl, c .shared-slice-known .given (c .before .before .args .i) .fits)
+returns c = (refl, c .shared-slice-known .given (search) .fits)
 
 returns-2 : tie.Need-returns-2
-returns-2 c = (sym (List·getD-eq-default (c .before .args .s .now) 0 (c .if1 .left)), omega arith)
+returns-2 c =
+    let start : tie.Start = search in
+    (sym (List·getD-eq-default (start .args .s .now) 0 (search)), omega arith)
 
 pub byte-at-spec : {M : Type 1} → statement M
-byte-at-spec = tie.close (tie.spec shared-slice-read-result cast-result returns returns-2)
+byte-at-spec = tie.close (tie.spec (λ c. search needs) cast-result returns returns-2)

@@ -9,15 +9,13 @@ use Rattle.fields.proofs.number.byte_count.Tie as tie
 
 returns : tie.Need-returns
 returns c =
-    let s = c .before .args .s .now in
+    let start : tie.Start = search in
+    let s = start .args .s .now in
     let e : length s ≡ 0 = omega arith in
     (sym e, λ i. let h : length s ≤ i = omega arith in rw (List·getD-eq-default s 0 h) (omega arith))
-
-shared-slice-read--first : tie.Need-shared-slice-read--first
-shared-slice-read--first c = search needs
 
 returns-2 : tie.Need-returns-2
 returns-2 c = (refl, λ i. c .shared-slice-known .given i .fits)
 
 pub byte-count-spec : {M : Type 1} → statement M
-byte-count-spec = tie.close (tie.spec returns shared-slice-read--first returns-2)
+byte-count-spec = tie.close (tie.spec returns (λ c. search needs) returns-2)

@@ -17,41 +17,38 @@ abbrev μ-loop : tie.MeasureT-loop
 μ-loop s at k x₀ i₀ x i = k - i
 
 loop-holds : tie.Need-loop-holds Inv-loop μ-loop
-loop-holds c = (omega arith, omega arith, first-start (c .before .args .s .now) (c .before .args .at) (c .before .args .k))
+loop-holds c =
+    let start : tie.Start Inv-loop μ-loop = search in
+    (omega arith, omega arith, first-start (start .args .s .now) (start .args .at) (start .args .k))
 
 mul-x : tie.Need-mul-x Inv-loop μ-loop
-mul-x c = omega (arith, byte-fits (c .before .loop .i) (c .before .loop .x) 0 (omega arith) (c .before .loop .inv .1) (omega arith))
-
-add-byte-at : tie.Need-add-byte-at Inv-loop μ-loop
-add-byte-at c = search needs
-
-byte-at-requires : tie.Need-byte-at-requires Inv-loop μ-loop
-byte-at-requires c κs = search needs
+mul-x c =
+    let at-loop : tie.At-loop Inv-loop μ-loop = search in
+    omega (arith, byte-fits (at-loop .loop .i) (at-loop .loop .x) 0 (omega arith) (search) (omega arith))
 
 add-x : tie.Need-add-x Inv-loop μ-loop
 add-x c =
-    let l = c .before .before .loop in
-    record { fits = byte-fits (l .i) (l .x) _ (omega arith) (l .inv .1) (c .byte-at .ensures .1) }
-
-add-i : tie.Need-add-i Inv-loop μ-loop
-add-i c = search needs
-
-loop-less : tie.Need-loop-less Inv-loop μ-loop
-loop-less c = search needs
+    let at-loop : tie.At-loop Inv-loop μ-loop = search in
+    let l = at-loop .loop in
+    record { fits = byte-fits (l .i) (l .x) _ (omega arith) (l .inv .1) (search) }
 
 loop-again : tie.Need-loop-again Inv-loop μ-loop
 loop-again c =
-    let l = c .before .before .loop in
-    let a = c .before .before .before .before .args in (
+    let start : tie.Start Inv-loop μ-loop = search in
+    let at-loop : tie.At-loop Inv-loop μ-loop = search in
+    let l = at-loop .loop in
+    let a = start .args in (
       omega arith,
-      byte-step (l .i) (l .x) _ (l .inv .1) (c .byte-at .ensures .1),
-      rw (c .byte-at .ensures .0) (sym (first-turn (a .s .now) (a .at) (a .k) (l .i) (l .x) (c .before .loop-test .taken)) ∙ l .inv .2),
+      byte-step (l .i) (l .x) _ (l .inv .1) (search),
+      rw (c .byte-at .ensures .0) (sym (first-turn (a .s .now) (a .at) (a .k) (l .i) (l .x) (search)) ∙ l .inv .2),
     )
 
 returns : tie.Need-returns Inv-loop μ-loop
 returns c =
-    let a = c .before .before .before .args in
-    first-done (a .s .now) (a .at) (a .k) (c .before .loop .i) (c .before .loop .x) (c .loop-test .left) ∙ c .before .loop .inv .2
+    let start : tie.Start Inv-loop μ-loop = search in
+    let at-loop : tie.At-loop Inv-loop μ-loop = search in
+    let a = start .args in
+    first-done (a .s .now) (a .at) (a .k) (at-loop .loop .i) (at-loop .loop .x) (search) ∙ at-loop .loop .inv .2
 
 pub get-at-spec : {M : Type 1} → statement M
 get-at-spec =
@@ -61,10 +58,10 @@ get-at-spec =
     μ-loop
     loop-holds
     mul-x
-    add-byte-at
-    byte-at-requires
+    (λ c. search needs)
+    (λ c κs. search needs)
     add-x
-    add-i
-    loop-less
+    (λ c. search needs)
+    (λ c. search needs)
     loop-again
     returns)

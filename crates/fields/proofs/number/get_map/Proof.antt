@@ -20,30 +20,25 @@ abbrev μ-loop : tie.MeasureT-loop
 loop-holds : tie.Need-loop-holds Inv-loop μ-loop
 loop-holds c = (omega arith, rw sub-self (omega arith), rw sub-self)
 
-sub-i : tie.Need-sub-i Inv-loop μ-loop
-sub-i c = search needs
-
 mul-x : tie.Need-mul-x Inv-loop μ-loop
-mul-x c = omega (arith, byte-fits (c .before .before .before .args .k - c .before .loop .i) (c .before .loop .x) 0 (omega arith) (c .before .loop .inv .1) (omega arith))
-
-add-byte-at : tie.Need-add-byte-at Inv-loop μ-loop
-add-byte-at c = search needs
-
-byte-at-requires : tie.Need-byte-at-requires Inv-loop μ-loop
-byte-at-requires c κs = search needs
+mul-x c =
+    let start : tie.Start Inv-loop μ-loop = search in
+    let at-loop : tie.At-loop Inv-loop μ-loop = search in
+    omega (arith, byte-fits (start .args .k - at-loop .loop .i) (search) 0 (omega arith) (search) (omega arith))
 
 add-x : tie.Need-add-x Inv-loop μ-loop
 add-x c =
-    let l = c .before .before .loop in
-    record { fits = byte-fits (c .before .before .before .before .args .k - l .i) (l .x) _ (omega arith) (l .inv .1) (c .byte-at .ensures .1) }
-
-loop-less : tie.Need-loop-less Inv-loop μ-loop
-loop-less c = search needs
+    let start : tie.Start Inv-loop μ-loop = search in
+    let at-loop : tie.At-loop Inv-loop μ-loop = search in
+    let l = at-loop .loop in
+    record { fits = byte-fits (start .args .k - l .i) (l .x) _ (omega arith) (l .inv .1) (search) }
 
 loop-again : tie.Need-loop-again Inv-loop μ-loop
 loop-again c =
-    let l = c .before .before .loop in
-    let a = c .before .before .before .before .args in
+    let start : tie.Start Inv-loop μ-loop = search in
+    let at-loop : tie.At-loop Inv-loop μ-loop = search in
+    let l = at-loop .loop in
+    let a = start .args in
     let e : a .k - l .i + 1 ≡ a .k - (l .i - 1) = omega arith in (
       omega arith,
       rw e at (byte-step (a .k - l .i) (l .x) _ (l .inv .1) (c .byte-at .ensures .1)),
@@ -52,7 +47,8 @@ loop-again c =
 
 returns : tie.Need-returns Inv-loop μ-loop
 returns c =
-    let l = c .before .loop in
+    let at-loop : tie.At-loop Inv-loop μ-loop = search in
+    let l = at-loop .loop in
     let e : l .i ≡ 0 = omega arith in
     rw (e, sub-zero, add-zero) at (l .inv .2)
 
@@ -63,11 +59,11 @@ get-map-spec =
     Inv-loop
     μ-loop
     loop-holds
-    sub-i
+    (λ c. search needs)
     mul-x
-    add-byte-at
-    byte-at-requires
+    (λ c. search needs)
+    (λ c κs. search needs)
     add-x
-    loop-less
+    (λ c. search needs)
     loop-again
     returns)

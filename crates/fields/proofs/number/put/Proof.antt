@@ -13,28 +13,17 @@ abbrev μ-loop : tie.MeasureT-loop
 μ-loop s₀ k n i₀ x₀ s i x = i
 
 loop-holds : tie.Need-loop-holds Inv-loop μ-loop
-loop-holds c = digits-start (c .pre)
-
-sub-i : tie.Need-sub-i Inv-loop μ-loop
-sub-i c = search needs
-
-cast-s : tie.Need-cast-s Inv-loop μ-loop
-cast-s c = search needs
-
-slice-write-s : tie.Need-slice-write-s Inv-loop μ-loop
-slice-write-s c = search needs
-
-loop-less : tie.Need-loop-less Inv-loop μ-loop
-loop-less c = search needs
+loop-holds c = digits-start (search)
 
 loop-again : tie.Need-loop-again Inv-loop μ-loop
-loop-again c = digits-step (c .before .loop .inv) (c .loop-test .taken)
-
-same-length : tie.Need-same-length Inv-loop μ-loop
-same-length c = c .before .loop .inv .same
+loop-again c =
+    let at-loop : tie.At-loop Inv-loop μ-loop = search in
+    digits-step (at-loop .loop .inv) (search)
 
 returns : tie.Need-returns Inv-loop μ-loop
-returns c = digits-done (c .before .loop .inv) (c .loop-test .left)
+returns c =
+    let at-loop : tie.At-loop Inv-loop μ-loop = search in
+    digits-done (at-loop .loop .inv) (search)
 
 pub put-spec : {M : Type 1} → statement M
-put-spec = tie.close (tie.spec Inv-loop μ-loop loop-holds sub-i cast-s slice-write-s loop-less loop-again same-length returns)
+put-spec = tie.close (tie.spec Inv-loop μ-loop loop-holds (λ c. search needs) (λ c. search needs) (λ c. search needs) (λ c. search needs) loop-again (λ c. search needs) returns)

@@ -11,70 +11,20 @@ use borrow.Author.Needs.{needs}
 use Rattle.records.proofs.reader.capability_of.Statement.{statement}
 use Rattle.records.proofs.reader.capability_of.Tie as tie
 
-array-read-origin-of : tie.Need-array-read-origin-of
-array-read-origin-of c = search needs
-
-array-read-origin-of-2 : tie.Need-array-read-origin-of-2
-array-read-origin-of-2 c = search needs
-
 origin-of-requires : tie.Need-origin-of-requires
 unfolding headCodings
 origin-of-requires c κs = omega (arith, c .pre .0 1)
 
-array-read-t14 : tie.Need-array-read-t14
-array-read-t14 c = search needs
-
-array-read-t18 : tie.Need-array-read-t18
-array-read-t18 c = search needs
-
-array-read-t22 : tie.Need-array-read-t22
-array-read-t22 c = search needs
-
-array-read-t26 : tie.Need-array-read-t26
-array-read-t26 c = search needs
-
-array-read-t29 : tie.Need-array-read-t29
-array-read-t29 c = search needs
-
-array-read-t33 : tie.Need-array-read-t33
-array-read-t33 c = search needs
-
-array-read-t37 : tie.Need-array-read-t37
-array-read-t37 c = search needs
-
-array-read-t41 : tie.Need-array-read-t41
-array-read-t41 c = search needs
-
-array-read-t45 : tie.Need-array-read-t45
-array-read-t45 c = search needs
-
-array-read-t49 : tie.Need-array-read-t49
-array-read-t49 c = search needs
-
-array-read-t53 : tie.Need-array-read-t53
-array-read-t53 c = search needs
-
-array-read-t57 : tie.Need-array-read-t57
-array-read-t57 c = search needs
-
-array-read-t61 : tie.Need-array-read-t61
-array-read-t61 c = search needs
-
-array-read-t65 : tie.Need-array-read-t65
-array-read-t65 c = search needs
-
-array-read-t69 : tie.Need-array-read-t69
-array-read-t69 c = search needs
-
-array-read-t73 : tie.Need-array-read-t73
-array-read-t73 c = search needs
-
 -- field i fits where its coding's bits do
 head-fits : {w : Width} (i : ℕ) → T (leb (bitsOf (getD headCodings i mark)) (bits w)) → (c : tie.After-origin-of) → Fits w (getD (c .before .args .t1) i 0)
-head-fits i t c = fitted-fits headCodings (c .before .args .t1) (c .before .pre .0) i t
+head-fits i t c =
+    let start : tie.Start = search in
+    fitted-fits headCodings (start .args .t1) (start .pre .0) i t
 
 field-fits : {w : Width} (i : ℕ) → T (leb (bitsOf (getD capabilityCodings i mark)) (bits w)) → (c : tie.After-origin-of) → Fits w (getD (c .before .args .t2) i 0)
-field-fits i t c = fitted-fits capabilityCodings (c .before .args .t2) (c .before .pre .1) i t
+field-fits i t c =
+    let start : tie.Start = search in
+    fitted-fits capabilityCodings (start .args .t2) (start .pre .1) i t
 
 returns : tie.Need-returns
 unfolding capabilityOf
@@ -85,37 +35,37 @@ unfolding headCodings capabilityCodings
 capability-of-spec =
     tie.close
     (tie.spec
-    array-read-origin-of
-    array-read-origin-of-2
+    (λ c. search needs)
+    (λ c. search needs)
     origin-of-requires
-    array-read-t14
+    (λ c. search needs)
     (head-fits 2 tt)
-    array-read-t18
+    (λ c. search needs)
     (field-fits 0 tt)
-    array-read-t22
+    (λ c. search needs)
     (field-fits 1 tt)
-    array-read-t26
-    array-read-t29
+    (λ c. search needs)
+    (λ c. search needs)
     (field-fits 3 tt)
-    array-read-t33
+    (λ c. search needs)
     (field-fits 4 tt)
-    array-read-t37
+    (λ c. search needs)
     (field-fits 5 tt)
-    array-read-t41
+    (λ c. search needs)
     (field-fits 6 tt)
-    array-read-t45
+    (λ c. search needs)
     (field-fits 7 tt)
-    array-read-t49
+    (λ c. search needs)
     (field-fits 8 tt)
-    array-read-t53
+    (λ c. search needs)
     (field-fits 9 tt)
-    array-read-t57
+    (λ c. search needs)
     (field-fits 10 tt)
-    array-read-t61
+    (λ c. search needs)
     (field-fits 11 tt)
-    array-read-t65
+    (λ c. search needs)
     (field-fits 12 tt)
-    array-read-t69
+    (λ c. search needs)
     (field-fits 13 tt)
-    array-read-t73
+    (λ c. search needs)
     returns)

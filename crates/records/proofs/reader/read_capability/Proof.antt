@@ -12,26 +12,29 @@ use Rattle.records.proofs.reader.read_capability.Tie as tie
 
 read-present-requires : tie.Need-read-present-requires
 read-present-requires c κs =
-    let e = c .before .before .capability-codes .ensures in
-    let n : length (c .before .before .capability-codes .result) ≡ 15 = ap length e ∙ capability-count in
+    let after-capability-codes : tie.After-capability-codes = search in
+    let e = after-capability-codes .capability-codes .ensures in
+    let n : length (after-capability-codes .capability-codes .result) ≡ 15 = ap length e ∙ capability-count in
     (omega arith, n, omega arith, rw e (capability-codes .small))
-
-field-map-requires : tie.Need-field-map-requires
-field-map-requires c κs = search needs
 
 capability-of-requires : tie.Need-capability-of-requires
 capability-of-requires c κs =
-    let head = c .before .before .before .before .before .before .before .read-head in
-    let start = c .before .before .before .before .before .before .before .before .before in
+    let start : tie.Start = search in
+    let after-read-present : tie.After-read-present = search in
+    let after-capability-codes : tie.After-capability-codes = search in
+    let after-read-head : tie.After-read-head = search in
+    let head = after-read-head .read-head in
+    let start = start in
     let s = start .args .s .now in (
-      head-fitted s (head .result) (start .args .at) (start .pre .1) (head .ensures),
-      present-fitted s (head .result) (c .before .before .before .before .before .before .capability-codes .result) _ (start .args .at) (start .pre .1) (head .ensures) (c .before .before .before .before .before .before .capability-codes .ensures) (c .before .before .before .read-present .ensures),
+      head-fitted s (head .result) (start .args .at) (search) (head .ensures),
+      present-fitted s (head .result) (after-capability-codes .capability-codes .result) _ (start .args .at) (start .pre .1) (head .ensures) (search) (after-read-present .read-present .ensures),
     )
 
 present-length-requires : tie.Need-present-length-requires
 present-length-requires c κs =
-    let e = c .before .before .before .before .before .before .before .before .capability-codes .ensures in
-    let n : length (c .before .before .before .before .before .before .before .before .capability-codes .result) ≡ 15 = ap length e ∙ capability-count in
+    let after-capability-codes : tie.After-capability-codes = search in
+    let e = after-capability-codes .capability-codes .ensures in
+    let n : length (after-capability-codes .capability-codes .result) ≡ 15 = ap length e ∙ capability-count in
     (omega arith, rw e (capability-codes .small))
 
 -- the place after it
@@ -39,22 +42,32 @@ next : (c : tie.After-present-length) →
     let a = c .before .before .before .before .before .before .before .before .before .before .before .before .args in
     a .at + 5 + c .present-length .result ≡ a .at + capabilityLength (drop (a .at) (a .s .now))
 next c =
-    let head = c .before .before .before .before .before .before .before .before .before .before .read-head in
-    let start = c .before .before .before .before .before .before .before .before .before .before .before .before in
-    length-reads (start .args .s .now) (head .result) (c .before .before .before .before .before .before .before .before .before .capability-codes .result) (start .args .at) (c .present-length .result) (head .ensures) (c .before .before .before .before .before .before .before .before .before .capability-codes .ensures) (c .present-length .ensures)
+    let start : tie.Start = search in
+    let after-capability-codes : tie.After-capability-codes = search in
+    let after-read-head : tie.After-read-head = search in
+    let head = after-read-head .read-head in
+    let start = start in
+    length-reads (start .args .s .now) (head .result) (after-capability-codes .capability-codes .result) (start .args .at) (c .present-length .result) (head .ensures) (after-capability-codes .capability-codes .ensures) (c .present-length .ensures)
 
 add-t32 : tie.Need-add-t32
-add-t32 c = omega (arith, capability-length-small (drop (c .before .before .before .before .before .before .before .before .before .before .before .before .args .at) (c .before .before .before .before .before .before .before .before .before .before .before .before .args .s .now)), next c)
+add-t32 c =
+    let start : tie.Start = search in
+    omega (arith, capability-length-small (drop (start .args .at) (start .args .s .now)), next c)
 
 returns : tie.Need-returns
 returns c =
-    let head = c .before .before .before .before .before .before .before .before .before .before .read-head in
-    let codes = c .before .before .before .before .before .before .before .before .before .capability-codes in
-    let start = c .before .before .before .before .before .before .before .before .before .before .before .before in
+    let start : tie.Start = search in
+    let after-capability-of : tie.After-capability-of = search in
+    let after-read-present : tie.After-read-present = search in
+    let after-capability-codes : tie.After-capability-codes = search in
+    let after-read-head : tie.After-read-head = search in
+    let head = after-read-head .read-head in
+    let codes = after-capability-codes .capability-codes in
+    let start = start in
     let s = start .args .s .now in (
-      c .before .before .capability-of .ensures ∙ capability-reads s (head .result) (codes .result) _ (start .args .at) (start .pre .1) (head .ensures) (codes .ensures) (c .before .before .before .before .before .before .read-present .ensures),
+      after-capability-of .capability-of .ensures ∙ capability-reads s (head .result) (codes .result) _ (start .args .at) (search) (head .ensures) (codes .ensures) (after-read-present .read-present .ensures),
       next c,
-      exact-reads s (head .result) (codes .result) _ (start .args .at) (start .pre .1) (head .ensures) (codes .ensures) (c .before .before .before .before .before .before .read-present .ensures) _ (c .before .before .before .field-map .ensures),
+      exact-reads s (head .result) (codes .result) _ (start .args .at) (search) (head .ensures) (codes .ensures) (after-read-present .read-present .ensures) _ (search),
     )
 
 pub read-capability-spec : {M : Type 1} → statement M
@@ -64,7 +77,7 @@ read-capability-spec =
     (λ c κs. search needs) (λ c. search needs) (λ c. search needs) (λ c κs. search needs) (λ c. search needs) (λ c. search needs) (λ c. search needs)
     read-present-requires
     (λ c. search needs)
-    field-map-requires
+    (λ c κs. search needs)
     capability-of-requires
     (λ c. search needs) (λ c. search needs)
     present-length-requires

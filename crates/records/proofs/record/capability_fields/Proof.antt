@@ -5,24 +5,6 @@ use borrow.Author.Needs.{needs}
 use Rattle.records.proofs.record.capability_fields.Statement.{statement}
 use Rattle.records.proofs.record.capability_fields.Tie as tie
 
-cast-t2 : tie.Need-cast-t2
-cast-t2 c = search needs
-
-cast-t3 : tie.Need-cast-t3
-cast-t3 c = search needs
-
-cast-t4 : tie.Need-cast-t4
-cast-t4 c = search needs
-
-cast-t5 : tie.Need-cast-t5
-cast-t5 c = search needs
-
-cast-t6 : tie.Need-cast-t6
-cast-t6 c = search needs
-
-cast-t7 : tie.Need-cast-t7
-cast-t7 c = search needs
-
 cast-t8 : tie.Need-cast-t8
 cast-t8 c = omega (arith, c .struct-known7 .given)
 
@@ -44,9 +26,6 @@ cast-t13 c = omega (arith, c .struct-known12 .given)
 cast-t14 : tie.Need-cast-t14
 cast-t14 c = omega (arith, c .struct-known13 .given)
 
-bit-of-requires : tie.Need-bit-of-requires
-bit-of-requires c κs = search needs
-
 returns : tie.Need-returns
 unfolding capabilityFields
 returns c = rw (c .bit-of .ensures)
@@ -55,12 +34,12 @@ pub capability-fields-spec : {M : Type 1} → statement M
 capability-fields-spec =
     tie.close
     (tie.spec
-    cast-t2
-    cast-t3
-    cast-t4
-    cast-t5
-    cast-t6
-    cast-t7
+    (λ c. search needs)
+    (λ c. search needs)
+    (λ c. search needs)
+    (λ c. search needs)
+    (λ c. search needs)
+    (λ c. search needs)
     cast-t8
     cast-t9
     cast-t10
@@ -68,5 +47,5 @@ capability-fields-spec =
     cast-t12
     cast-t13
     cast-t14
-    bit-of-requires
+    (λ c κs. search needs)
     returns)

@@ -1,90 +1,71 @@
 -- `records::record::put_capability` meets its contract.
-use mathlib.Core.Path.{sym, ap, _∙_}
-use mathlib.Core.List.{List}
-use Prim.Native.Nat.{ℕ, _≤_}
+use mathlib.Core.Path.{_≡_}
+use Prim.Native.Nat.{_+_, _≤_}
 use native.Mathlib.Omega.{arith}
 use lib.ListN.{length}
 use Rattle.buffers.proofs.Parts.{length-tail}
-use Rattle.masks.specs.Bytes.{front}
-use Rattle.records.specs.Codes.{writeHead, writeFields}
-use Rattle.fields.proofs.Parts.{two-parts}
-use Rattle.records.proofs.Tables.{present-writes, present-amount, capability-parts, head-length, capability-size}
+use Rattle.model.specs.Fields.{writePresent}
+use Rattle.fields.specs.Codes.{codings}
+use Rattle.records.specs.Codes.{writeFields}
+use Rattle.records.proofs.Tables.{present-writes, capability-size, capability-written}
 use borrow.Author.Needs.{needs}
 use Rattle.records.proofs.record.put_capability.Statement.{statement}
 use Rattle.records.proofs.record.put_capability.Tie as tie
 
-capability-fields-requires : tie.Need-capability-fields-requires
-capability-fields-requires c κs = search needs
+room : (start : tie.Start) → 5 + length (writeFields (start .args .c)) ≤ length (start .args .s .now)
+room start = omega (arith, capability-size (start .args .c))
 
-capability-codes-requires : tie.Need-capability-codes-requires
-capability-codes-requires c κs = search needs
+abbrev start : tie.After-capability-codes → tie.Start
+start c = search
 
-slice-aggregate-field-map : tie.Need-slice-aggregate-field-map
-slice-aggregate-field-map c = search needs
+abbrev fields : tie.After-capability-codes → tie.After-capability-fields
+fields c = search
 
-field-map-requires : tie.Need-field-map-requires
-field-map-requires c κs = search needs
+writes : (c : tie.After-capability-codes) → (length (c .capability-codes .result) ≡ length (fields c .capability-fields .result))
+    × (writePresent (codings (c .capability-codes .result)) (fields c .capability-fields .result) ≡ writeFields (start c .args .c))
+writes c = present-writes _ _ (start c .args .c) (c .capability-codes .ensures) (fields c .capability-fields .ensures)
 
 put-head-requires : tie.Need-put-head-requires
 put-head-requires c κs =
-    (rw (c .before .before .before .before .capability-fields .ensures) at (c .field-map .ensures), omega (arith, c .before .before .before .before .before .before .pre, capability-size (c .before .before .before .before .before .before .args .c)))
+    let after-capability-fields : tie.After-capability-fields = search in
+    (rw (after-capability-fields .capability-fields .ensures) at (c .field-map .ensures), omega (arith, room (search)))
 
 sub-put-present : tie.Need-sub-put-present
-sub-put-present c =
-    omega (arith, c .before .before .before .before .before .before .before .before .before .pre, capability-size (c .before .before .before .before .before .before .before .before .before .args .c), c .before .s .given)
-
-part-put-present-start : tie.Need-part-put-present-start
-part-put-present-start c =
-    let h : 5 ≤ length (c .before .before .put-head .last .0) = omega (arith, c .before .before .before .before .before .before .before .before .before .pre, capability-size (c .before .before .before .before .before .before .before .before .before .args .c), c .before .s .given) in search needs
-
-part-put-present-end : tie.Need-part-put-present-end
-part-put-present-end c = search needs
-
-slice-aggregate-put-present : tie.Need-slice-aggregate-put-present
-slice-aggregate-put-present c = search needs
-
-slice-aggregate-put-present-2 : tie.Need-slice-aggregate-put-present-2
-slice-aggregate-put-present-2 c = search needs
+sub-put-present c = omega (arith, room (search))
 
 put-present-requires : tie.Need-put-present-requires
 put-present-requires c κs =
-    let w = present-writes _ _ (c .before .before .before .before .before .before .before .before .before .before .before .before .args .c) (c .before .before .before .before .before .before .before .before .before .capability-codes .ensures) (c .before .before .before .before .before .before .before .before .before .before .capability-fields .ensures) in (
-      present-amount _ _ (c .before .before .before .before .before .before .before .before .before .before .before .before .args .c) (c .before .before .before .before .before .before .before .before .before .capability-codes .ensures) (c .before .before .before .before .before .before .before .before .before .before .capability-fields .ensures),
-      rw (w, length-tail) (omega (arith, c .before .before .before .before .before .before .before .before .before .before .before .before .pre, capability-size (c .before .before .before .before .before .before .before .before .before .before .before .before .args .c), c .before .before .before .before .s .given)),
-    )
+    let w = writes (search) in
+    (w .0, rw (w .1, length-tail) (omega (arith, room (search))))
 
 add-result : tie.Need-add-result
 add-result c =
-    let w = present-writes _ _ (c .before .before .before .before .before .before .before .before .before .before .before .before .before .before .before .args .c) (c .before .before .before .before .before .before .before .before .before .before .before .before .capability-codes .ensures) (c .before .before .before .before .before .before .before .before .before .before .before .before .before .capability-fields .ensures) in
-    omega (arith, c .before .before .before .before .before .before .before .before .before .before .before .before .before .before .before .pre, capability-size (c .before .before .before .before .before .before .before .before .before .before .before .before .before .before .before .args .c), rw w at (c .before .before .put-present .ensures .0))
-
-same-length : tie.Need-same-length
-same-length c = search needs
+    let present : tie.After-put-present = search in
+    omega (arith, room (search), rw (writes (search) .1) at (present .put-present .ensures .0))
 
 returns : tie.Need-returns
 returns c =
-    let w = present-writes _ _ (c .before .before .before .before .before .before .before .before .before .before .before .before .before .before .before .args .c) (c .before .before .before .before .before .before .before .before .before .before .before .before .capability-codes .ensures) (c .before .before .before .before .before .before .before .before .before .before .before .before .before .capability-fields .ensures) in
-    let e = rw w at (c .before .before .put-present .ensures) in (
-      omega (arith, capability-size (c .before .before .before .before .before .before .before .before .before .before .before .before .before .before .before .args .c)),
-      two-parts (writeHead (c .before .before .before .before .before .before .before .before .before .before .before .before .before .before .before .args .c)) (writeFields (c .before .before .before .before .before .before .before .before .before .before .before .before .before .before .before .args .c)) (c .before .before .before .before .before .before .before .before .before .before .before .before .before .before .before .args .s .now) (c .before .before .before .before .before .before .before .before .put-head .last .0) _ 5 (sym (head-length (c .before .before .before .before .before .before .before .before .before .before .before .before .before .before .before .args .c))) (omega (arith, c .before .before .before .before .before .before .before .before .before .before .before .before .before .before .before .pre, capability-size (c .before .before .before .before .before .before .before .before .before .before .before .before .before .before .before .args .c), head-length (c .before .before .before .before .before .before .before .before .before .before .before .before .before .before .before .args .c))) (c .before .before .before .before .before .before .before .before .put-head .ensures) (e .1)
-          ∙ ap (λ (l : List ℕ). front l (c .before .before .before .before .before .before .before .before .before .before .before .before .before .before .before .args .s .now)) (sym (capability-parts (c .before .before .before .before .before .before .before .before .before .before .before .before .before .before .before .args .c))),
-    )
+    let codes : tie.After-capability-codes = search in
+    let present : tie.After-put-present = search in
+    let head : tie.After-put-head = search in
+    let a = start codes .args in
+    capability-written (a .c) (a .s .now) (room (start codes)) (head .put-head .ensures) (rw (writes codes .1) at (present .put-present .ensures))
 
 pub put-capability-spec : {M : Type 1} → statement M
 put-capability-spec =
     tie.close
     (tie.spec
-    capability-fields-requires
-    capability-codes-requires
-    slice-aggregate-field-map
-    field-map-requires
+    (λ c κs. search needs)
+    (λ c κs. search needs)
+    (λ c. search needs)
+    (λ c κs. search needs)
     put-head-requires
     sub-put-present
-    part-put-present-start
-    part-put-present-end
-    slice-aggregate-put-present
-    slice-aggregate-put-present-2
+    (λ c. let h = sub-put-present c in search needs)
+    (λ c. search needs)
+    (λ c. search needs)
+    (λ c. search needs)
     put-present-requires
     add-result
-    same-length
+    (λ c. search needs)
     returns)

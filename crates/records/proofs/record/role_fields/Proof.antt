@@ -5,24 +5,9 @@ use borrow.Author.Needs.{needs}
 use Rattle.records.proofs.record.role_fields.Statement.{statement}
 use Rattle.records.proofs.record.role_fields.Tie as tie
 
-cast-t2 : tie.Need-cast-t2
-cast-t2 c = search needs
-
-cast-t3 : tie.Need-cast-t3
-cast-t3 c = search needs
-
-cast-t4 : tie.Need-cast-t4
-cast-t4 c = search needs
-
-cast-t5 : tie.Need-cast-t5
-cast-t5 c = search needs
-
-cast-t6 : tie.Need-cast-t6
-cast-t6 c = search needs
-
 returns : tie.Need-returns
 unfolding roleFields
-returns c = refl
+returns c = search needs
 
 pub role-fields-spec : {M : Type 1} → statement M
-role-fields-spec = tie.close (tie.spec cast-t2 cast-t3 cast-t4 cast-t5 cast-t6 returns)
+role-fields-spec = tie.close (tie.spec (λ c. search needs) (λ c. search needs) (λ c. search needs) (λ c. search needs) (λ c. search needs) returns)
