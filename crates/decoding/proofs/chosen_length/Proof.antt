@@ -17,30 +17,22 @@ abbrev μ-loop : tie.MeasureT-loop
 loop-holds : tie.Need-loop-holds Inv-loop μ-loop
 loop-holds c = (omega arith, rw sub-zero (omega arith), omega arith)
 
-if-set-requires : tie.Need-if-set-requires Inv-loop μ-loop
-if-set-requires c κs = search needs
-
-add-n : tie.Need-add-n Inv-loop μ-loop
-add-n c = search needs
-
-add-i : tie.Need-add-i Inv-loop μ-loop
-add-i c = search needs
-
-loop-less : tie.Need-loop-less Inv-loop μ-loop
-loop-less c = search needs
-
 loop-again : tie.Need-loop-again Inv-loop μ-loop
 loop-again c =
-    let a = c .before .before .before .args in
-    let l = c .before .before .loop in
+    let start : tie.Start Inv-loop μ-loop = search in
+    let at-loop : tie.At-loop Inv-loop μ-loop = search in
+    let a = start .args in
+    let l = at-loop .loop in
     let e : a .k - l .i ≡ suc (a .k - (l .i + 1)) = omega arith in
     let u : chosenLength (a .w) (l .m) (a .k - l .i) ≡ l .m % 2 * a .w + chosenLength (a .w) (l .m / 2) (a .k - (l .i + 1)) = ap (chosenLength (a .w) (l .m)) e in
     (omega arith, omega arith, omega arith)
 
 returns : tie.Need-returns Inv-loop μ-loop
 returns c =
-    let a = c .before .before .args in
-    let l = c .before .loop in
+    let start : tie.Start Inv-loop μ-loop = search in
+    let at-loop : tie.At-loop Inv-loop μ-loop = search in
+    let a = start .args in
+    let l = at-loop .loop in
     let e : a .k - l .i ≡ 0 = omega arith in
     let u : chosenLength (a .w) (l .m) (a .k - l .i) ≡ 0 = ap (chosenLength (a .w) (l .m)) e in
     (omega arith, omega arith)
@@ -48,4 +40,4 @@ returns c =
 pub chosen-length-spec : {M : Type 1} → statement M
 chosen-length-spec =
     tie.close
-    (tie.spec Inv-loop μ-loop loop-holds if-set-requires add-n add-i loop-less loop-again returns)
+    (tie.spec Inv-loop μ-loop loop-holds (λ c κs. search needs) (λ c. search needs) (λ c. search needs) (λ c. search needs) loop-again returns)

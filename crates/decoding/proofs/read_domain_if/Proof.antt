@@ -8,20 +8,15 @@ use borrow.Author.Needs.{needs}
 use Rattle.decoding.proofs.read_domain_if.Statement.{statement}
 use Rattle.decoding.proofs.read_domain_if.Tie as tie
 
-returns : tie.Need-returns
-returns c =
-    sym (item-none 0 readDomain (c .before .before .args .bit) (drop (c .before .before .args .at) (c .before .before .args .s .now)) (c .if1 .taken))
-
-get-at-requires : tie.Need-get-at-requires
-get-at-requires c κs = search needs
-
 cast-result : tie.Need-cast-result
 cast-result c =
-    omega (arith, number-small 1 (drop (c .before .before .before .args .at) (c .before .before .before .args .s .now)) (bytes-drop (c .before .before .before .args .at) (c .before .before .before .args .s .now) (c .before .before .before .pre .1)), c .get-at .ensures)
+    let start : tie.Start = search in
+    omega (arith, number-small 1 (drop (start .args .at) (start .args .s .now)) (bytes-drop (start .args .at) (start .args .s .now) (search)))
 
 returns-2 : tie.Need-returns-2
 returns-2 c =
-    c .get-at .ensures ∙ sym (item-set 0 readDomain (c .before .before .before .args .bit) (drop (c .before .before .before .args .at) (c .before .before .before .args .s .now)) (c .before .if1 .left))
+    let start : tie.Start = search in
+    c .get-at .ensures ∙ sym (item-set 0 readDomain (start .args .bit) (drop (start .args .at) (start .args .s .now)) (search))
 
 pub read-domain-if-spec : {M : Type 1} → statement M
-read-domain-if-spec = tie.close (tie.spec returns get-at-requires cast-result returns-2)
+read-domain-if-spec = tie.close (tie.spec (λ c. search needs) (λ c κs. search needs) cast-result returns-2)

@@ -13,22 +13,18 @@ Inv-loop s from mask domains₀ at₀ m₀ i₀ domains at m i = ChosenTo 0 read
 abbrev μ-loop : tie.MeasureT-loop
 μ-loop s from mask domains₀ at₀ m₀ i₀ domains at m i = 64 - i
 
-loop-holds : tie.Need-loop-holds Inv-loop μ-loop
-loop-holds c = chosen-start 0 readDomain 1 64 _ _ _ _ (search needs)
-
-read-domain-if-requires : tie.Need-read-domain-if-requires Inv-loop μ-loop
-read-domain-if-requires c κs = (omega (arith, c .before .before .before .pre .0, c .before .loop .inv .some, c .before .loop .inv .near), c .before .before .before .pre .1)
-
-add-at : tie.Need-add-at Inv-loop μ-loop
-add-at c = omega (arith, c .before .before .before .before .before .pre .0, c .before .before .before .loop .inv .some, c .before .before .before .loop .inv .near, c .if-set .ensures .1)
-
 loop-again : tie.Need-loop-again Inv-loop μ-loop
-loop-again c = chosen-more 0 readDomain 1 64 (c .before .before .before .loop .inv) (c .before .before .loop-test .taken) _ _ (c .before .read-domain-if .ensures) (c .if-set .ensures)
+loop-again c =
+    let after-read-domain-if : tie.After-read-domain-if Inv-loop μ-loop = search in
+    let at-loop : tie.At-loop Inv-loop μ-loop = search in
+    chosen-more 0 readDomain 1 64 (at-loop .loop .inv) (search) _ _ (after-read-domain-if .read-domain-if .ensures) (search)
 
 returns : tie.Need-returns Inv-loop μ-loop
-returns c = chosen-all 0 readDomain 1 64 (c .before .loop .inv) (c .loop-test .left)
+returns c =
+    let at-loop : tie.At-loop Inv-loop μ-loop = search in
+    chosen-all 0 readDomain 1 64 (at-loop .loop .inv) (search)
 
 pub read-domains-spec : {M : Type 1} → statement M
 read-domains-spec =
     tie.close
-    (tie.spec Inv-loop μ-loop loop-holds read-domain-if-requires (λ c. search needs) (λ c κs. search needs) add-at (λ c. search needs) (λ c. search needs) loop-again returns)
+    (tie.spec Inv-loop μ-loop (λ c. search needs) (λ c κs. search needs) (λ c. search needs) (λ c κs. search needs) (λ c. search needs) (λ c. search needs) (λ c. search needs) loop-again returns)

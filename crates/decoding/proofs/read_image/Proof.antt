@@ -11,11 +11,9 @@ use Rattle.decoding.proofs.read_image.Tie as tie
 
 cast-clock : tie.Need-cast-clock
 cast-clock c =
-    let s = c .before .before .before .args .s .now in
-    omega (arith, number-small 4 (drop 0 s) (bytes-drop 0 s (c .before .byte-count .ensures .1)), c .get-at .ensures)
-
-read-domains-requires : tie.Need-read-domains-requires
-read-domains-requires c κs = (omega arith, c .before .before .byte-count .ensures .1)
+    let start : tie.Start = search in
+    let s = start .args .s .now in
+    omega (arith, number-small 4 (drop 0 s) (bytes-drop 0 s (search)))
 
 add-roles-at : tie.Need-add-roles-at
 add-roles-at c = omega (arith, c .chosen-length .ensures .1)
@@ -24,35 +22,52 @@ get-map-requires-2 : tie.Need-get-map-requires-2
 get-map-requires-2 c κs = (omega (arith, c .chosen-length .ensures .1), omega arith)
 
 add-read-roles : tie.Need-add-read-roles
-add-read-roles c = omega (arith, c .before .chosen-length .ensures .1)
+add-read-roles c =
+    let after-chosen-length : tie.After-chosen-length = search in
+    omega (arith, after-chosen-length .chosen-length .ensures .1)
 
 read-roles-requires : tie.Need-read-roles-requires
-read-roles-requires c κs = (omega (arith, c .before .chosen-length .ensures .1), c .before .before .before .before .before .byte-count .ensures .1)
+read-roles-requires c κs =
+    let after-chosen-length : tie.After-chosen-length = search in
+    let after-byte-count : tie.After-byte-count = search in
+    (omega (arith, after-chosen-length .chosen-length .ensures .1), after-byte-count .byte-count .ensures .1)
 
 add-count-at : tie.Need-add-count-at
-add-count-at c = omega (arith, c .before .before .chosen-length .ensures .1)
+add-count-at c =
+    let after-chosen-length : tie.After-chosen-length = search in
+    omega (arith, after-chosen-length .chosen-length .ensures .1)
 
 add-count-at-2 : tie.Need-add-count-at-2
-add-count-at-2 c = omega (arith, c .before .before .before .chosen-length .ensures .1, c .chosen-length2 .ensures .1)
+add-count-at-2 c =
+    let after-chosen-length : tie.After-chosen-length = search in
+    omega (arith, after-chosen-length .chosen-length .ensures .1, c .chosen-length2 .ensures .1)
 
 read-rest-requires : tie.Need-read-rest-requires
 read-rest-requires c κs =
-    (omega (arith, c .before .before .before .chosen-length .ensures .1, c .chosen-length2 .ensures .1), c .before .before .before .before .before .before .before .byte-count .ensures .1)
+    let after-chosen-length : tie.After-chosen-length = search in
+    let after-byte-count : tie.After-byte-count = search in
+    (omega (arith, after-chosen-length .chosen-length .ensures .1, c .chosen-length2 .ensures .1), after-byte-count .byte-count .ensures .1)
 
 returns : tie.Need-returns
 returns c =
-    let s = c .before .before .before .before .before .before .before .before .before .before .args .s .now in
-    let enrolled = c .before .before .before .before .before .before .get-map in
-    let users = c .before .before .before .before .chosen-length in
-    let founded = c .before .before .before .get-map2 in
+    let start : tie.Start = search in
+    let after-chosen-length2 : tie.After-chosen-length2 = search in
+    let after-get-map2 : tie.After-get-map2 = search in
+    let after-chosen-length : tie.After-chosen-length = search in
+    let after-get-map : tie.After-get-map = search in
+    let after-byte-count : tie.After-byte-count = search in
+    let s = start .args .s .now in
+    let enrolled = after-get-map .get-map in
+    let users = after-chosen-length .chosen-length in
+    let founded = after-get-map2 .get-map2 in
     let ra = 12 + users .result in
-    let roles = c .before .chosen-length2 in
+    let roles = after-chosen-length2 .chosen-length2 in
     let ca = ra + 4 + roles .result in
     let era = ap (λ (x : ℕ). 12 + x) (users .ensures .0) in
     let eca = ap (λ (x : ℕ). ra + 4 + x) (roles .ensures .0) in (
-      c .read-rest .ensures .0 ∙ image-register s (enrolled .result) ra (founded .result) ca (enrolled .ensures) era (founded .ensures) eca _ _ _ (c .before .before .before .before .before .before .before .get-at .ensures) (c .before .before .before .before .before .read-domains .ensures) (c .before .before .read-roles .ensures),
+      c .read-rest .ensures .0 ∙ image-register s (enrolled .result) ra (founded .result) ca (enrolled .ensures) era (founded .ensures) eca _ _ _ (search) (search) (search),
       c .read-rest .ensures .1 ∙ image-exact s (enrolled .result) ra (founded .result) ca (enrolled .ensures) era (founded .ensures) eca,
-      c .before .before .before .before .before .before .before .before .byte-count .ensures .1,
+      after-byte-count .byte-count .ensures .1,
     )
 
 pub read-image-spec : {M : Type 1} → statement M
@@ -62,7 +77,7 @@ read-image-spec =
     (λ c κs. search needs) (λ c κs. search needs)
     cast-clock
     (λ c κs. search needs)
-    read-domains-requires
+    (λ c κs. search needs)
     (λ c κs. search needs)
     add-roles-at
     get-map-requires-2

@@ -14,22 +14,18 @@ Inv-loop s from mask roles₀ at₀ m₀ i₀ roles at m i = ChosenTo blankRole 
 abbrev μ-loop : tie.MeasureT-loop
 μ-loop s from mask roles₀ at₀ m₀ i₀ roles at m i = 32 - i
 
-loop-holds : tie.Need-loop-holds Inv-loop μ-loop
-loop-holds c = chosen-start blankRole readRole 20 32 _ _ _ _ (search needs)
-
-read-role-if-requires : tie.Need-read-role-if-requires Inv-loop μ-loop
-read-role-if-requires c κs = (omega (arith, c .before .before .before .before .pre .0, c .before .loop .inv .some, c .before .loop .inv .near), c .before .before .before .before .pre .1)
-
-add-at : tie.Need-add-at Inv-loop μ-loop
-add-at c = omega (arith, c .before .before .before .before .before .before .pre .0, c .before .before .before .loop .inv .some, c .before .before .before .loop .inv .near, c .if-set .ensures .1)
-
 loop-again : tie.Need-loop-again Inv-loop μ-loop
-loop-again c = chosen-more blankRole readRole 20 32 (c .before .before .before .loop .inv) (c .before .before .loop-test .taken) _ _ (c .before .read-role-if .ensures) (c .if-set .ensures)
+loop-again c =
+    let after-read-role-if : tie.After-read-role-if Inv-loop μ-loop = search in
+    let at-loop : tie.At-loop Inv-loop μ-loop = search in
+    chosen-more blankRole readRole 20 32 (at-loop .loop .inv) (search) _ _ (after-read-role-if .read-role-if .ensures) (search)
 
 returns : tie.Need-returns Inv-loop μ-loop
-returns c = chosen-all blankRole readRole 20 32 (c .before .loop .inv) (c .loop-test .left)
+returns c =
+    let at-loop : tie.At-loop Inv-loop μ-loop = search in
+    chosen-all blankRole readRole 20 32 (at-loop .loop .inv) (search)
 
 pub read-roles-spec : {M : Type 1} → statement M
 read-roles-spec =
     tie.close
-    (tie.spec Inv-loop μ-loop (λ c κs. search needs) loop-holds read-role-if-requires (λ c. search needs) (λ c. search needs) (λ c κs. search needs) add-at (λ c. search needs) (λ c. search needs) loop-again returns)
+    (tie.spec Inv-loop μ-loop (λ c κs. search needs) (λ c. search needs) (λ c κs. search needs) (λ c. search needs) (λ c. search needs) (λ c κs. search needs) (λ c. search needs) (λ c. search needs) (λ c. search needs) loop-again returns)

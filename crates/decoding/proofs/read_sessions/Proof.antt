@@ -14,22 +14,18 @@ Inv-loop s from mask sessions₀ at₀ m₀ i₀ sessions at m i = ChosenTo blan
 abbrev μ-loop : tie.MeasureT-loop
 μ-loop s from mask sessions₀ at₀ m₀ i₀ sessions at m i = 64 - i
 
-loop-holds : tie.Need-loop-holds Inv-loop μ-loop
-loop-holds c = chosen-start blankSession readSession 6 64 _ _ _ _ (search needs)
-
-read-session-if-requires : tie.Need-read-session-if-requires Inv-loop μ-loop
-read-session-if-requires c κs = (omega (arith, c .before .before .before .before .pre .0, c .before .loop .inv .some, c .before .loop .inv .near), c .before .before .before .before .pre .1)
-
-add-at : tie.Need-add-at Inv-loop μ-loop
-add-at c = omega (arith, c .before .before .before .before .before .before .pre .0, c .before .before .before .loop .inv .some, c .before .before .before .loop .inv .near, c .if-set .ensures .1)
-
 loop-again : tie.Need-loop-again Inv-loop μ-loop
-loop-again c = chosen-more blankSession readSession 6 64 (c .before .before .before .loop .inv) (c .before .before .loop-test .taken) _ _ (c .before .read-session-if .ensures) (c .if-set .ensures)
+loop-again c =
+    let after-read-session-if : tie.After-read-session-if Inv-loop μ-loop = search in
+    let at-loop : tie.At-loop Inv-loop μ-loop = search in
+    chosen-more blankSession readSession 6 64 (at-loop .loop .inv) (search) _ _ (after-read-session-if .read-session-if .ensures) (search)
 
 returns : tie.Need-returns Inv-loop μ-loop
-returns c = chosen-all blankSession readSession 6 64 (c .before .loop .inv) (c .loop-test .left)
+returns c =
+    let at-loop : tie.At-loop Inv-loop μ-loop = search in
+    chosen-all blankSession readSession 6 64 (at-loop .loop .inv) (search)
 
 pub read-sessions-spec : {M : Type 1} → statement M
 read-sessions-spec =
     tie.close
-    (tie.spec Inv-loop μ-loop (λ c κs. search needs) loop-holds read-session-if-requires (λ c. search needs) (λ c. search needs) (λ c κs. search needs) add-at (λ c. search needs) (λ c. search needs) loop-again returns)
+    (tie.spec Inv-loop μ-loop (λ c κs. search needs) (λ c. search needs) (λ c κs. search needs) (λ c. search needs) (λ c. search needs) (λ c κs. search needs) (λ c. search needs) (λ c. search needs) (λ c. search needs) loop-again returns)

@@ -11,16 +11,12 @@ use borrow.Author.Needs.{needs}
 use Rattle.decoding.proofs.session_exact_if.Statement.{statement}
 use Rattle.decoding.proofs.session_exact_if.Tie as tie
 
-returns : tie.Need-returns
-returns c =
-    let a = c .before .before .args in
-    sym (item-none true exactSession (a .bit) (drop (a .at) (a .s .now)) (c .if1 .taken))
-
 returns-2 : tie.Need-returns-2
 returns-2 c =
-    let a = c .before .before .before .args in
+    let start : tie.Start = search in
+    let a = start .args in
     ap (λ (x : ℕ). ltb x 2) (c .byte-at .ensures .0 ∙ sym (getD-drop (a .at) (a .s .now) 1 0))
-    ∙ sym (item-set true exactSession (a .bit) (drop (a .at) (a .s .now)) (c .before .if1 .left))
+    ∙ sym (item-set true exactSession (a .bit) (drop (a .at) (a .s .now)) (search))
 
 pub session-exact-if-spec : {M : Type 1} → statement M
-session-exact-if-spec = tie.close (tie.spec returns (λ c. search needs) (λ c κs. search needs) returns-2)
+session-exact-if-spec = tie.close (tie.spec (λ c. search needs) (λ c. search needs) (λ c κs. search needs) returns-2)

@@ -17,21 +17,22 @@ Inv-loop s from mask exact₀ at₀ m₀ i₀ exact at m i =
 abbrev μ-loop : tie.MeasureT-loop
 μ-loop s from mask exact₀ at₀ m₀ i₀ exact at m i = 64 - i
 
-loop-holds : tie.Need-loop-holds Inv-loop μ-loop
-loop-holds c = (omega arith, omega arith, refl)
-
 loop-again : tie.Need-loop-again Inv-loop μ-loop
 loop-again c =
-    let l = c .before .before .before .loop in
-    let a = c .before .before .before .before .before .args in (
+    let start : tie.Start Inv-loop μ-loop = search in
+    let after-session-exact-if : tie.After-session-exact-if Inv-loop μ-loop = search in
+    let at-loop : tie.At-loop Inv-loop μ-loop = search in
+    let l = at-loop .loop in
+    let a = start .args in (
       omega arith,
-      omega (arith, c .if-set .ensures .1),
-      sessions-turn (l .i) (l .at) (l .m) (a .s .now) (l .exact) (c .before .session-exact-if .result) (c .if-set .result) _ (omega arith) (c .before .session-exact-if .ensures) (c .if-set .ensures .0) (l .inv .2),
+      omega arith,
+      sessions-turn (l .i) (l .at) (l .m) (a .s .now) (l .exact) (after-session-exact-if .session-exact-if .result) (c .if-set .result) _ (omega arith) (after-session-exact-if .session-exact-if .ensures) (search) (l .inv .2),
     )
 
 returns : tie.Need-returns Inv-loop μ-loop
 returns c =
-    let l = c .before .loop in
+    let at-loop : tie.At-loop Inv-loop μ-loop = search in
+    let l = at-loop .loop in
     let e : 64 - l .i ≡ 0 = omega arith in
     sym (and-true (l .exact)) ∙ (rw e at (l .inv .2))
 
@@ -41,7 +42,7 @@ sessions-exact-spec =
     (tie.spec
     Inv-loop
     μ-loop
-    loop-holds
+    (λ c. search needs)
     (λ c κs. search needs) (λ c κs. search needs) (λ c. search needs) (λ c. search needs) (λ c. search needs)
     loop-again
     returns)
