@@ -8,15 +8,19 @@ use Rattle.image.proofs.load.Tie as tie
 
 returns : tie.Need-returns
 returns c =
-    let s = c .before .before .before .before .args .s .now in
-    let read = c .before .before .read-checked in
-    load-none s _ (read .ensures .1) _ _ (sym (read .ensures .0) ∙ not-true (read .result .exact) (c .before .if1 .taken)) (c .not-loaded .ensures .0) (c .not-loaded .ensures .1)
+    let start : tie.Start = search in
+    let after-read-checked : tie.After-read-checked = search in
+    let s = start .args .s .now in
+    let read = after-read-checked .read-checked in
+    load-none s _ (read .ensures .1) _ _ (sym (read .ensures .0) ∙ not-true (read .result .exact) (search)) (c .not-loaded .ensures .0) (search)
 
 returns-2 : tie.Need-returns-2
 returns-2 c =
-    let s = c .before .before .before .before .args .s .now in
-    let read = c .before .before .read-checked in
-    load-some s _ (read .ensures .1) (sym (read .ensures .0) ∙ not-false (read .result .exact) (c .before .if1 .left))
+    let start : tie.Start = search in
+    let after-read-checked : tie.After-read-checked = search in
+    let s = start .args .s .now in
+    let read = after-read-checked .read-checked in
+    load-some s _ (read .ensures .1) (sym (read .ensures .0) ∙ not-false (read .result .exact) (search))
 
 pub load-spec : {M : Type 1} → statement M
 load-spec = tie.close (tie.spec (λ c κs. search needs) (λ c κs. search needs) returns returns-2)

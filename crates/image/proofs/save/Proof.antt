@@ -8,24 +8,19 @@ use borrow.Author.Needs.{needs}
 use Rattle.image.proofs.save.Statement.{statement}
 use Rattle.image.proofs.save.Tie as tie
 
-well-formed-requires : tie.Need-well-formed-requires
-well-formed-requires c κs = search needs
-
 returns : tie.Need-returns
 returns c =
-    let w = save-broken (c .before .before .before .args .r) (c .before .before .before .args .buffer .now) (sym (c .before .well-formed .ensures) ∙ not-true (c .before .well-formed .result) (c .if1 .taken)) in
+    let start : tie.Start = search in
+    let after-well-formed : tie.After-well-formed = search in
+    let w = save-broken (start .args .r) (start .args .buffer .now) (sym (after-well-formed .well-formed .ensures) ∙ not-true (after-well-formed .well-formed .result) (search)) in
     (w .answer, w .leaves)
 
 save-trusted-requires : tie.Need-save-trusted-requires
 save-trusted-requires c κs =
-    true→T (wellFormed (c .before .before .before .before .args .r)) (sym (c .before .before .well-formed .ensures) ∙ not-false (c .before .before .well-formed .result) (c .before .if1 .left))
-
-same-length : tie.Need-same-length
-same-length c = search needs
-
-returns-2 : tie.Need-returns-2
-returns-2 c = search needs
+    let start : tie.Start = search in
+    let after-well-formed : tie.After-well-formed = search in
+    true→T (wellFormed (start .args .r)) (sym (after-well-formed .well-formed .ensures) ∙ not-false (after-well-formed .well-formed .result) (search))
 
 pub save-spec : {M : Type 1} → statement M
 save-spec =
-    tie.close (tie.spec well-formed-requires returns save-trusted-requires same-length returns-2)
+    tie.close (tie.spec (λ c κs. search needs) returns save-trusted-requires (λ c. search needs) (λ c. search needs))

@@ -1,8 +1,9 @@
 -- `image::save_trusted` meets its contract.
 use mathlib.Core.Path.{sym, ap, _∙_}
 use mathlib.Core.List.{List}
-use Prim.Native.Nat.{ℕ}
+use Prim.Native.Nat.{ℕ, _≤_}
 use native.Mathlib.Omega.{arith}
+use lib.ListN.{length}
 use lib.Seq.{length-take-le}
 use Rattle.masks.specs.Bytes.{front}
 use Rattle.model.specs.Image.{encode}
@@ -14,58 +15,41 @@ use borrow.Author.Needs.{needs}
 use Rattle.image.proofs.save_trusted.Statement.{statement}
 use Rattle.image.proofs.save_trusted.Tie as tie
 
-put-image-requires : tie.Need-put-image-requires
-put-image-requires c κs =
-    let start = c .before .before .before in
-    let f = formed→ (start .args .r) (start .pre) in
-    (f .count, omega (arith, image-small (start .args .r) f, c .before .if1 .taken))
+small : (start : tie.Start) → (start .args .r .count ≤ 256) × (length (encode (start .args .r)) ≤ 13402)
+small start = let f = formed→ (start .args .r) (start .pre) in (f .count, image-small (start .args .r) f)
 
-cast-t10 : tie.Need-cast-t10
-cast-t10 c =
-    let start = c .before .before .before .before .before .before in
-    omega (arith, image-small (start .args .r) (formed→ (start .args .r) (start .pre)), c .before .before .put-image .ensures .0)
+put-image-requires : tie.Need-put-image-requires
+put-image-requires c κs = let f = small (search) in (f .0, omega arith)
 
 returns : tie.Need-returns
 returns c =
-    let start = c .before .before .before .before .before .before in
-    let image = c .before .before .put-image in
-    let w = save-done (start .args .r) (start .args .buffer .now) (start .pre) (omega (arith, image-small (start .args .r) (formed→ (start .args .r) (start .pre)), c .before .before .before .before .if1 .taken)) (image .result) (image .ensures .0) _ (image .ensures .1) in
+    let start : tie.Start = search in
+    let after-put-image : tie.After-put-image = search in
+    let image = after-put-image .put-image in
+    let w = save-done (start .args .r) (start .args .buffer .now) (start .pre) (omega (arith, small start)) _ (image .ensures .0) _ (image .ensures .1) in
     (w .answer, w .leaves)
-
-put-image-requires-2 : tie.Need-put-image-requires-2
-put-image-requires-2 c κs =
-    let start = c .before .before .before in
-    let f = formed→ (start .args .r) (start .pre) in
-    (f .count, image-small (start .args .r) f)
 
 returns-2 : tie.Need-returns-2
 returns-2 c =
-    let start = c .before .before .before .before .before .before in
-    let w = save-short (start .args .r) (start .args .buffer .now) (start .pre) (omega (arith, c .if2 .taken, c .before .before .put-image2 .ensures .0)) in
+    let start : tie.Start = search in
+    let w = save-short (start .args .r) (start .args .buffer .now) (start .pre) (omega arith) in
     (w .answer, w .leaves)
 
 array-share-prefix-image : tie.Need-array-share-prefix-image
-array-share-prefix-image c =
-    let start = c .before .before .before .before .before .before .before in
-    omega (arith, image-small (start .args .r) (formed→ (start .args .r) (start .pre)), c .before .before .before .put-image2 .ensures .0)
-
-slice-aggregate-put-bytes : tie.Need-slice-aggregate-put-bytes
-slice-aggregate-put-bytes c = sym (length-take-le _ _ (array-share-prefix-image (c .before)))
+array-share-prefix-image c = omega (arith, small (search))
 
 put-bytes-requires : tie.Need-put-bytes-requires
-put-bytes-requires c κs = rw (length-take-le _ _ (array-share-prefix-image (c .before))) (omega (arith, c .before .before .if2 .left))
-
-cast-t19 : tie.Need-cast-t19
-cast-t19 c =
-    let start = c .before .before .before .before .before .before .before .before .before .before .before in
-    omega (arith, image-small (start .args .r) (formed→ (start .args .r) (start .pre)), c .before .before .before .before .before .before .before .put-image2 .ensures .0)
+put-bytes-requires c κs = rw (length-take-le _ _ (array-share-prefix-image (search))) (omega arith)
 
 returns-3 : tie.Need-returns-3
 returns-3 c =
-    let start = c .before .before .before .before .before .before .before .before .before .before .before in
-    let image = c .before .before .before .before .before .before .before .put-image2 in
-    let after = c .before .before .put-bytes .ensures ∙ ap (λ (x : List ℕ). front x (start .args .buffer .now)) (take-front (encode (start .args .r)) _ _ _ (image .ensures .1) (image .ensures .0)) in
-    let w = save-done (start .args .r) (start .args .buffer .now) (start .pre) (omega (arith, c .before .before .before .before .before .if2 .left, image .ensures .0)) (image .result) (image .ensures .0) _ after in
+    let start : tie.Start = search in
+    let after-put-bytes : tie.After-put-bytes = search in
+    let after-put-image2 : tie.After-put-image2 = search in
+    let image = after-put-image2 .put-image2 in
+    let written = take-front (encode (start .args .r)) _ _ _ (image .ensures .1) (image .ensures .0) in
+    let after = after-put-bytes .put-bytes .ensures ∙ ap (λ (x : List ℕ). front x (start .args .buffer .now)) written in
+    let w = save-done (start .args .r) (start .args .buffer .now) (start .pre) (omega (arith, image .ensures .0)) _ (image .ensures .0) _ after in
     (w .answer, w .leaves)
 
 pub save-trusted-spec : {M : Type 1} → statement M
@@ -73,15 +57,15 @@ save-trusted-spec =
     tie.close
     (tie.spec
     put-image-requires
-    cast-t10
+    (λ c. omega (arith, small (search)))
     (λ c. search needs)
     returns
     (λ c. search needs)
-    put-image-requires-2
+    (λ c κs. small (search))
     returns-2
     array-share-prefix-image
-    slice-aggregate-put-bytes
+    (λ c. sym (length-take-le _ _ (array-share-prefix-image (search))))
     put-bytes-requires
-    cast-t19
+    (λ c. omega (arith, small (search)))
     (λ c. search needs)
     returns-3)
