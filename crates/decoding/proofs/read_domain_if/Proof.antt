@@ -3,7 +3,7 @@ use mathlib.Core.Path.{sym, _∙_}
 use native.Mathlib.Omega.{arith}
 use lib.ListN.{drop}
 use Rattle.fields.proofs.Reading.{bytes-drop, number-small}
-use Rattle.decoding.proofs.Decoding.{item-set, item-none, readDomain}
+use Rattle.decoding.proofs.Decoding.{item-set, readDomain}
 use borrow.Author.Needs.{needs}
 use Rattle.decoding.proofs.read_domain_if.Statement.{statement}
 use Rattle.decoding.proofs.read_domain_if.Tie as tie

@@ -1,8 +1,7 @@
 -- `decoding::read_domains` meets its contract.
 use Prim.Native.Nat.{_-_}
-use native.Mathlib.Omega.{arith}
 use Rattle.decoding.proofs.Decoding.{readDomain}
-use Rattle.decoding.proofs.Reading.{ChosenTo, chosen-start, chosen-more, chosen-all}
+use Rattle.decoding.proofs.Reading.{ChosenTo, chosen-more, chosen-all}
 use borrow.Author.Needs.{needs}
 use Rattle.decoding.proofs.read_domains.Statement.{statement}
 use Rattle.decoding.proofs.read_domains.Tie as tie

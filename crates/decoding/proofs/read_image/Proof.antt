@@ -1,6 +1,6 @@
 -- `decoding::read_image` meets its contract: each section is read from the place after the one before it.
 use mathlib.Core.Path.{ap, _∙_}
-use Prim.Native.Nat.{ℕ, _+_}
+use Prim.Native.Nat.{ℕ, _+_, _≤_}
 use native.Mathlib.Omega.{arith}
 use lib.ListN.{drop}
 use Rattle.fields.proofs.Reading.{bytes-drop, number-small}
@@ -15,38 +15,11 @@ cast-clock c =
     let s = start .args .s .now in
     omega (arith, number-small 4 (drop 0 s) (bytes-drop 0 s (search)))
 
-add-roles-at : tie.Need-add-roles-at
-add-roles-at c = omega (arith, c .chosen-length .ensures .1)
+users-near : (c : tie.After-chosen-length) → c .chosen-length .result ≤ 1280
+users-near c = c .chosen-length .ensures .1
 
-get-map-requires-2 : tie.Need-get-map-requires-2
-get-map-requires-2 c κs = (omega (arith, c .chosen-length .ensures .1), omega arith)
-
-add-read-roles : tie.Need-add-read-roles
-add-read-roles c =
-    let after-chosen-length : tie.After-chosen-length = search in
-    omega (arith, after-chosen-length .chosen-length .ensures .1)
-
-read-roles-requires : tie.Need-read-roles-requires
-read-roles-requires c κs =
-    let after-chosen-length : tie.After-chosen-length = search in
-    let after-byte-count : tie.After-byte-count = search in
-    (omega (arith, after-chosen-length .chosen-length .ensures .1), after-byte-count .byte-count .ensures .1)
-
-add-count-at : tie.Need-add-count-at
-add-count-at c =
-    let after-chosen-length : tie.After-chosen-length = search in
-    omega (arith, after-chosen-length .chosen-length .ensures .1)
-
-add-count-at-2 : tie.Need-add-count-at-2
-add-count-at-2 c =
-    let after-chosen-length : tie.After-chosen-length = search in
-    omega (arith, after-chosen-length .chosen-length .ensures .1, c .chosen-length2 .ensures .1)
-
-read-rest-requires : tie.Need-read-rest-requires
-read-rest-requires c κs =
-    let after-chosen-length : tie.After-chosen-length = search in
-    let after-byte-count : tie.After-byte-count = search in
-    (omega (arith, after-chosen-length .chosen-length .ensures .1, c .chosen-length2 .ensures .1), after-byte-count .byte-count .ensures .1)
+roles-near : (c : tie.After-chosen-length2) → c .chosen-length2 .result ≤ 1280
+roles-near c = c .chosen-length2 .ensures .1
 
 returns : tie.Need-returns
 returns c =
@@ -76,15 +49,13 @@ read-image-spec =
     (tie.spec
     (λ c κs. search needs) (λ c κs. search needs)
     cast-clock
+    (λ c κs. search needs) (λ c κs. search needs) (λ c κs. search needs)
+    (λ c. omega (arith, users-near (search)))
+    (λ c κs. (omega (arith, users-near (search)), omega arith))
+    (λ c. omega (arith, users-near (search)))
+    (λ c κs. (omega (arith, users-near (search)), search))
+    (λ c. omega (arith, users-near (search)))
     (λ c κs. search needs)
-    (λ c κs. search needs)
-    (λ c κs. search needs)
-    add-roles-at
-    get-map-requires-2
-    add-read-roles
-    read-roles-requires
-    add-count-at
-    (λ c κs. search needs)
-    add-count-at-2
-    read-rest-requires
+    (λ c. omega (arith, users-near (search), roles-near (search)))
+    (λ c κs. (omega (arith, users-near (search), roles-near (search)), search))
     returns)

@@ -1,6 +1,6 @@
 -- `decoding::read_rest` meets its contract.
 use mathlib.Core.Path.{_≡_, ap}
-use Prim.Native.Nat.{_+_, _-_, _≤_}
+use Prim.Native.Nat.{_+_, _-_, _≤_, _<_}
 use native.Mathlib.Nat.{min-le-left}
 use native.Mathlib.Omega.{arith}
 use lib.ListN.{length, drop, replicate}
@@ -30,43 +30,19 @@ loop-again c =
     let r = after-read-capability .read-capability in
     (l .inv .0, read-step (l .inv .1) (search) (l .inv .0) _ _ _ (r .ensures .0) (r .ensures .1) (r .ensures .2))
 
-add-ends-2 : tie.Need-add-ends-2 Inv-loop μ-loop
-add-ends-2 c =
+-- the capabilities end before it
+near : (c : tie.At-loop Inv-loop μ-loop) → c .loop .at < 32290
+near c =
     let start : tie.Start Inv-loop μ-loop = search in
-    let at-loop : tie.At-loop Inv-loop μ-loop = search in
-    omega (arith, start .pre .0, at-loop .loop .inv .0, at-loop .loop .inv .1 .some, at-loop .loop .inv .1 .near, c .chosen-length .ensures .1)
-
-add-sessions-exact : tie.Need-add-sessions-exact Inv-loop μ-loop
-add-sessions-exact c =
-    let start : tie.Start Inv-loop μ-loop = search in
-    let at-loop : tie.At-loop Inv-loop μ-loop = search in
-    omega (arith, start .pre .0, at-loop .loop .inv .0, at-loop .loop .inv .1 .some, at-loop .loop .inv .1 .near)
-
-sessions-exact-requires : tie.Need-sessions-exact-requires Inv-loop μ-loop
-sessions-exact-requires c κs =
-    let start : tie.Start Inv-loop μ-loop = search in
-    let at-loop : tie.At-loop Inv-loop μ-loop = search in
-    omega (arith, start .pre .0, at-loop .loop .inv .0, at-loop .loop .inv .1 .some, at-loop .loop .inv .1 .near)
-
-add-read-sessions : tie.Need-add-read-sessions Inv-loop μ-loop
-add-read-sessions c =
-    let start : tie.Start Inv-loop μ-loop = search in
-    let at-loop : tie.At-loop Inv-loop μ-loop = search in
-    omega (arith, start .pre .0, at-loop .loop .inv .0, at-loop .loop .inv .1 .some, at-loop .loop .inv .1 .near)
-
-read-sessions-requires : tie.Need-read-sessions-requires Inv-loop μ-loop
-read-sessions-requires c κs =
-    let start : tie.Start Inv-loop μ-loop = search in
-    let at-loop : tie.At-loop Inv-loop μ-loop = search in
-    (omega (arith, start .pre .0, at-loop .loop .inv .0, at-loop .loop .inv .1 .some, at-loop .loop .inv .1 .near), start .pre .1)
+    omega (arith, c .loop .inv .1 .some, c .loop .inv .1 .near)
 
 cast-t30 : tie.Need-cast-t30 Inv-loop μ-loop
 cast-t30 c =
     let start : tie.Start Inv-loop μ-loop = search in
-    let after-get-at : tie.After-get-at Inv-loop μ-loop = search in
-    let start = start in
-    let s = start .args .s .now in
-    omega (arith, number-small 2 (drop (search) s) (bytes-drop (search) s (search)), after-get-at .get-at .ensures)
+    let count : tie.After-get-at Inv-loop μ-loop = search in
+    let a = start .args in
+    let h = number-small 2 (drop (a .from) (a .s .now)) (bytes-drop (a .from) (a .s .now) (start .pre .1)) in
+    omega (arith, h, count .get-at .ensures)
 
 returns : tie.Need-returns Inv-loop μ-loop
 returns c =
@@ -99,19 +75,13 @@ read-rest-spec =
     μ-loop
     (λ c κs. search needs) (λ c κs. search needs) (λ c κs. search needs) (λ c. search needs)
     loop-holds
-    (λ c κs. search needs)
-    (λ c. search needs)
-    (λ c. search needs)
-    (λ c. search needs)
-    (λ c. search needs)
+    (λ c κs. search needs) (λ c. search needs) (λ c. search needs) (λ c. search needs) (λ c. search needs)
     loop-again
-    (λ c κs. search needs)
-    (λ c. search needs)
-    (λ c κs. search needs)
-    add-ends-2
-    add-sessions-exact
-    sessions-exact-requires
-    add-read-sessions
-    read-sessions-requires
+    (λ c κs. search needs) (λ c. search needs) (λ c κs. search needs)
+    (λ c. omega (arith, near (search), c .chosen-length .ensures .1))
+    (λ c. omega (arith, near (search)))
+    (λ c κs. omega (arith, near (search)))
+    (λ c. omega (arith, near (search)))
+    (λ c κs. (omega (arith, near (search)), search))
     cast-t30
     returns)

@@ -3,7 +3,7 @@ use mathlib.Core.Path.{sym, _∙_}
 use lib.ListN.{drop}
 use Rattle.model.specs.State.{blankRole}
 use Rattle.model.specs.Fields.{readRole}
-use Rattle.decoding.proofs.Decoding.{item-set, item-none}
+use Rattle.decoding.proofs.Decoding.{item-set}
 use borrow.Author.Needs.{needs}
 use Rattle.decoding.proofs.read_role_if.Statement.{statement}
 use Rattle.decoding.proofs.read_role_if.Tie as tie

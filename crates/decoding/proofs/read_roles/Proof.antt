@@ -1,9 +1,8 @@
 -- `decoding::read_roles` meets its contract.
 use Prim.Native.Nat.{_-_}
-use native.Mathlib.Omega.{arith}
 use Rattle.model.specs.State.{blankRole}
 use Rattle.model.specs.Fields.{readRole}
-use Rattle.decoding.proofs.Reading.{ChosenTo, chosen-start, chosen-more, chosen-all}
+use Rattle.decoding.proofs.Reading.{ChosenTo, chosen-more, chosen-all}
 use borrow.Author.Needs.{needs}
 use Rattle.decoding.proofs.read_roles.Statement.{statement}
 use Rattle.decoding.proofs.read_roles.Tie as tie

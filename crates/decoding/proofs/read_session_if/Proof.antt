@@ -3,7 +3,7 @@ use mathlib.Core.Path.{sym, _∙_}
 use lib.ListN.{drop}
 use Rattle.model.specs.State.{blankSession}
 use Rattle.model.specs.Fields.{readSession}
-use Rattle.decoding.proofs.Decoding.{item-set, item-none}
+use Rattle.decoding.proofs.Decoding.{item-set}
 use borrow.Author.Needs.{needs}
 use Rattle.decoding.proofs.read_session_if.Statement.{statement}
 use Rattle.decoding.proofs.read_session_if.Tie as tie

@@ -6,7 +6,7 @@ use lib.Dec.{ltb}
 use lib.ListN.{drop}
 use lib.Seq.{getD-drop}
 use Rattle.records.specs.Exact.{exactSession}
-use Rattle.decoding.proofs.Decoding.{item-set, item-none}
+use Rattle.decoding.proofs.Decoding.{item-set}
 use borrow.Author.Needs.{needs}
 use Rattle.decoding.proofs.session_exact_if.Statement.{statement}
 use Rattle.decoding.proofs.session_exact_if.Tie as tie

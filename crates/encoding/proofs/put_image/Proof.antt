@@ -53,7 +53,7 @@ returns c =
     let w2 = turn (encode r) abcd (usersBytes r) bcd 4 _ s₀ w1 (start .pre .1) refl .step (after-put-users .put-users .ensures) (after-s2 .s2 .given .1) in
     let w3 = turn (encode r) bcd (rolesBytes r) cd _ _ s₀ w2 (start .pre .1) refl .step (after-put-founded .put-founded .ensures) (after-s3 .s3 .given .1) in
     let w4 = turn (encode r) cd (capabilitiesBytes r) d _ _ s₀ w3 (start .pre .1) refl .step (after-put-counted .put-counted .ensures) (after-s4 .s4 .given .1) in
-    let w5 = turn (encode r) d d [] _ _ s₀ w4 (start .pre .1) (sym (append-nil d)) .step (after-put-active .put-active .ensures) (after-s5 .s5 .given .1) in
+    let w5 = turn (encode r) d d [] _ _ s₀ w4 (search) (sym (append-nil d)) .step (after-put-active .put-active .ensures) (after-s5 .s5 .given .1) in
     writing-done (encode r) [] _ _ s₀ w5 refl
 
 pub put-image-spec : {M : Type 1} → statement M
@@ -74,8 +74,7 @@ put-image-spec =
     (λ c. omega (arith, room (search)))
     sub-put-counted
     (λ c. let h = sub-put-counted c in search needs)
-    (λ c. search needs)
-    (λ c. search needs)
+    (λ c. search needs) (λ c. search needs)
     (λ c κs. (search, rw length-tail (omega (arith, room (search)))))
     (λ c. omega (arith, room (search)))
     sub-put-active

@@ -20,15 +20,13 @@ loop-holds c = mask-start tt (search needs)
 
 mul-m : tie.Need-mul-m Inv-loop μ-loop
 mul-m c =
-    let in-loop : tie.In-loop Inv-loop μ-loop = search in
     let at-loop : tie.At-loop Inv-loop μ-loop = search in
-    omega (arith, mask-fits (at-loop .loop .inv) (in-loop .loop-test .taken) blankRole refl)
+    omega (arith, mask-fits (at-loop .loop .inv) (search) blankRole refl)
 
 add-m : tie.Need-add-m Inv-loop μ-loop
 add-m c =
-    let in-loop : tie.In-loop Inv-loop μ-loop = search in
     let at-loop : tie.At-loop Inv-loop μ-loop = search in
-    omega (arith, mask-fits (at-loop .loop .inv) (in-loop .loop-test .taken) blankRole (c .bit-of .ensures))
+    omega (arith, mask-fits (at-loop .loop .inv) (search) blankRole (c .bit-of .ensures))
 
 loop-again : tie.Need-loop-again Inv-loop μ-loop
 loop-again c = mask-step (search) (search) blankRole (search)
@@ -37,7 +35,7 @@ returns : tie.Need-returns Inv-loop μ-loop
 unfolding foundedRoles
 returns c =
     let at-loop : tie.At-loop Inv-loop μ-loop = search in
-    (mask-done (at-loop .loop .inv) (c .loop-test .left), mask-small (at-loop .loop .inv))
+    (mask-done (at-loop .loop .inv) (search), mask-small (at-loop .loop .inv))
 
 pub founded-mask-spec : {M : Type 1} → statement M
 founded-mask-spec =
@@ -46,9 +44,7 @@ founded-mask-spec =
     Inv-loop
     μ-loop
     loop-holds
-    (λ c. search needs)
-    (λ c. search needs)
-    (λ c. search needs)
+    (λ c. search needs) (λ c. search needs) (λ c. search needs)
     mul-m
     (λ c κs. search needs)
     add-m

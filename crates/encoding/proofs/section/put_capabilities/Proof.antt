@@ -18,7 +18,7 @@ loop-holds : tie.Need-loop-holds Inv-loop μ-loop
 loop-holds c =
     let start : tie.Start Inv-loop μ-loop = search in
     let e : length (start .args .t2) ≡ 256 = search needs in
-    capabilities-start (omega arith) (start .pre .1)
+    capabilities-start (omega arith) (search)
 
 put-capability-requires : tie.Need-put-capability-requires Inv-loop μ-loop
 put-capability-requires c κs =
@@ -34,8 +34,7 @@ add-at c =
 loop-again : tie.Need-loop-again Inv-loop μ-loop
 loop-again c =
     let after-put-capability : tie.After-put-capability Inv-loop μ-loop = search in
-    let at-loop : tie.At-loop Inv-loop μ-loop = search in
-    capabilities-next (at-loop .loop .inv) (search) (after-put-capability .put-capability .ensures) (search)
+    capabilities-next (search) (search) (after-put-capability .put-capability .ensures) (search)
 
 returns : tie.Need-returns Inv-loop μ-loop
 returns c =
@@ -49,15 +48,10 @@ put-capabilities-spec =
     Inv-loop
     μ-loop
     loop-holds
-    (λ c. search needs)
-    (λ c. search needs)
-    (λ c. search needs)
-    (λ c. search needs)
-    (λ c. search needs)
+    (λ c. search needs) (λ c. search needs) (λ c. search needs) (λ c. search needs) (λ c. search needs)
     put-capability-requires
     add-at
-    (λ c. search needs)
-    (λ c. search needs)
+    (λ c. search needs) (λ c. search needs)
     loop-again
     (λ c. search needs)
     returns)

@@ -11,15 +11,13 @@ use Rattle.encoding.proofs.section.put_domain_if.Tie as tie
 put-requires : tie.Need-put-requires
 put-requires c κs =
     let start : tie.Start = search in
-    let else1 : tie.Else1 = search in
-    omega (arith, ap length (chosen-set (start .args .bit) (bytesOf 1 (start .args .d)) (else1 .if1 .left)))
+    omega (arith, ap length (chosen-set (start .args .bit) (bytesOf 1 (start .args .d)) (search)))
 
 returns-2 : tie.Need-returns-2
 returns-2 c =
     let start : tie.Start = search in
     let after-put : tie.After-put = search in
-    let else1 : tie.Else1 = search in
-    rw (chosen-set (start .args .bit) (bytesOf 1 (start .args .d)) (else1 .if1 .left)) (refl, after-put .put .ensures)
+    rw (chosen-set (start .args .bit) (bytesOf 1 (start .args .d)) (search)) (refl, after-put .put .ensures)
 
 pub put-domain-if-spec : {M : Type 1} → statement M
 put-domain-if-spec = tie.close (tie.spec (λ c. search needs) put-requires (λ c. search needs) returns-2)

@@ -11,15 +11,13 @@ use Rattle.encoding.proofs.section.put_role_if.Tie as tie
 put-role-requires : tie.Need-put-role-requires
 put-role-requires c κs =
     let start : tie.Start = search in
-    let else1 : tie.Else1 = search in
-    omega (arith, ap length (chosen-set (start .args .bit) (writeRole (start .args .x)) (else1 .if1 .left)))
+    omega (arith, ap length (chosen-set (start .args .bit) (writeRole (start .args .x)) (search)))
 
 returns-2 : tie.Need-returns-2
 returns-2 c =
     let start : tie.Start = search in
-    let after-put-role : tie.After-put-role = search in
     let else1 : tie.Else1 = search in
-    rw (chosen-set (start .args .bit) (writeRole (start .args .x)) (else1 .if1 .left)) (after-put-role .put-role .ensures)
+    rw (chosen-set (start .args .bit) (writeRole (start .args .x)) (else1 .if1 .left)) (search)
 
 pub put-role-if-spec : {M : Type 1} → statement M
 put-role-if-spec = tie.close (tie.spec (λ c. search needs) put-role-requires (λ c. search needs) returns-2)

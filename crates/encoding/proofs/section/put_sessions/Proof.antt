@@ -3,7 +3,7 @@ use Prim.Native.Nat.{_-_}
 use native.Mathlib.Omega.{arith}
 use Rattle.model.specs.State.{blankSession}
 use Rattle.model.specs.Fields.{writeSession}
-use Rattle.encoding.proofs.Putting.{ItemsTo, items-start, items-turn, items-step, items-passed}
+use Rattle.encoding.proofs.Putting.{ItemsTo, items-turn, items-step, items-passed}
 use borrow.Author.Needs.{needs}
 use Rattle.encoding.proofs.section.put_sessions.Statement.{statement}
 use Rattle.encoding.proofs.section.put_sessions.Tie as tie
@@ -16,29 +16,25 @@ abbrev μ-loop : tie.MeasureT-loop
 
 put-session-if-requires : tie.Need-put-session-if-requires Inv-loop μ-loop
 put-session-if-requires c κs =
-    let in-loop : tie.In-loop Inv-loop μ-loop = search in
     let at-loop : tie.At-loop Inv-loop μ-loop = search in
-    (items-turn (at-loop .loop .inv) blankSession (in-loop .loop-test .taken)) .fits
+    (items-turn (at-loop .loop .inv) blankSession (search)) .fits
 
 add-at : tie.Need-add-at Inv-loop μ-loop
 add-at c =
     let after-put-session-if : tie.After-put-session-if Inv-loop μ-loop = search in
-    let in-loop : tie.In-loop Inv-loop μ-loop = search in
     let at-loop : tie.At-loop Inv-loop μ-loop = search in
-    omega (arith, (items-turn (at-loop .loop .inv) blankSession (in-loop .loop-test .taken)) .within (after-put-session-if .put-session-if .ensures .0))
+    omega (arith, (items-turn (at-loop .loop .inv) blankSession (search)) .within (after-put-session-if .put-session-if .ensures .0))
 
 loop-again : tie.Need-loop-again Inv-loop μ-loop
 loop-again c =
-    let after-s : tie.After-s Inv-loop μ-loop = search in
     let after-put-session-if : tie.After-put-session-if Inv-loop μ-loop = search in
-    let in-loop : tie.In-loop Inv-loop μ-loop = search in
     let at-loop : tie.At-loop Inv-loop μ-loop = search in
-    items-step (at-loop .loop .inv) blankSession (in-loop .loop-test .taken) (after-put-session-if .put-session-if .ensures) (after-s .s .given .1)
+    items-step (at-loop .loop .inv) blankSession (search) (after-put-session-if .put-session-if .ensures) (search)
 
 returns : tie.Need-returns Inv-loop μ-loop
 returns c =
     let at-loop : tie.At-loop Inv-loop μ-loop = search in
-    items-passed (at-loop .loop .inv) (c .loop-test .left)
+    items-passed (at-loop .loop .inv) (search)
 
 pub put-sessions-spec : {M : Type 1} → statement M
 put-sessions-spec =
@@ -46,16 +42,10 @@ put-sessions-spec =
     (tie.spec
     Inv-loop
     μ-loop
-    (λ c. search needs)
-    (λ c. search needs)
-    (λ c. search needs)
-    (λ c. search needs)
-    (λ c. search needs)
-    (λ c. search needs)
+    (λ c. search needs) (λ c. search needs) (λ c. search needs) (λ c. search needs) (λ c. search needs) (λ c. search needs)
     put-session-if-requires
     add-at
-    (λ c. search needs)
-    (λ c. search needs)
+    (λ c. search needs) (λ c. search needs)
     loop-again
     (λ c. search needs)
     returns)

@@ -56,9 +56,7 @@ field-map-spec =
     loop-holds
     (λ c. search needs)
     mul-m
-    (λ c. search needs)
-    (λ c. search needs)
-    (λ c κs. search needs)
+    (λ c. search needs) (λ c. search needs) (λ c κs. search needs)
     add-m
     (λ c. search needs)
     loop-again

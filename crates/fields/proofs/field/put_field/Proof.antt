@@ -46,8 +46,7 @@ put-field-spec =
     (tie.spec
     (λ c. search needs)
     put-map-requires
-    (λ c. search needs)
-    (λ c. search needs)
+    (λ c. search needs) (λ c. search needs)
     returns
     put-requires
     (λ c. search needs)

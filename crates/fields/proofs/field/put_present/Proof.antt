@@ -2,7 +2,7 @@
 use Prim.Native.Nat.{_-_}
 use native.Mathlib.Omega.{arith}
 use lib.ListN.{length}
-use Rattle.fields.proofs.Putting.{each-present, FieldsTo, fields-start, fields-turn, fields-step, fields-done}
+use Rattle.fields.proofs.Putting.{each-present, FieldsTo, fields-turn, fields-step, fields-done}
 use borrow.Author.Needs.{needs}
 use Rattle.fields.proofs.field.put_present.Statement.{statement}
 use Rattle.fields.proofs.field.put_present.Tie as tie
@@ -46,18 +46,12 @@ put-present-spec =
     (tie.spec
     Inv-loop
     μ-loop
-    (λ c. search needs)
-    (λ c. search needs)
-    (λ c. search needs)
-    (λ c. search needs)
-    (λ c. search needs)
+    (λ c. search needs) (λ c. search needs) (λ c. search needs) (λ c. search needs) (λ c. search needs)
     cast-put-set
-    (λ c. search needs)
-    (λ c. search needs)
+    (λ c. search needs) (λ c. search needs)
     put-set-requires
     add-at
-    (λ c. search needs)
-    (λ c. search needs)
+    (λ c. search needs) (λ c. search needs)
     loop-again
     (λ c. search needs)
     returns)

@@ -1,8 +1,6 @@
 -- `fields::field::read_set` meets its contract.
-use mathlib.Core.Path.{sym, ap, _∙_}
-use Prim.Native.Nat.{ℕ}
+use mathlib.Core.Path.{sym, _∙_}
 use lib.ListN.{drop}
-use Rattle.model.specs.Fields.{readSet}
 use Rattle.fields.specs.Codes.{codingOf}
 use Rattle.fields.proofs.Codes.{set-read}
 use borrow.Author.Needs.{needs}

@@ -58,10 +58,8 @@ get-at-spec =
     μ-loop
     loop-holds
     mul-x
-    (λ c. search needs)
-    (λ c κs. search needs)
+    (λ c. search needs) (λ c κs. search needs)
     add-x
-    (λ c. search needs)
-    (λ c. search needs)
+    (λ c. search needs) (λ c. search needs)
     loop-again
     returns)

@@ -61,8 +61,7 @@ get-map-spec =
     loop-holds
     (λ c. search needs)
     mul-x
-    (λ c. search needs)
-    (λ c κs. search needs)
+    (λ c. search needs) (λ c κs. search needs)
     add-x
     (λ c. search needs)
     loop-again

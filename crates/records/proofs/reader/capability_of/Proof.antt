@@ -16,15 +16,14 @@ unfolding headCodings
 origin-of-requires c κs = omega (arith, c .pre .0 1)
 
 -- field i fits where its coding's bits do
-head-fits : {w : Width} (i : ℕ) → T (leb (bitsOf (getD headCodings i mark)) (bits w)) → (c : tie.After-origin-of) → Fits w (getD (c .before .args .t1) i 0)
-head-fits i t c =
-    let start : tie.Start = search in
-    fitted-fits headCodings (start .args .t1) (start .pre .0) i t
+abbrev start : tie.After-origin-of → tie.Start
+start c = search
 
-field-fits : {w : Width} (i : ℕ) → T (leb (bitsOf (getD capabilityCodings i mark)) (bits w)) → (c : tie.After-origin-of) → Fits w (getD (c .before .args .t2) i 0)
-field-fits i t c =
-    let start : tie.Start = search in
-    fitted-fits capabilityCodings (start .args .t2) (start .pre .1) i t
+head-fits : {w : Width} (i : ℕ) → T (leb (bitsOf (getD headCodings i mark)) (bits w)) → (c : tie.After-origin-of) → Fits w (getD (start c .args .t1) i 0)
+head-fits i t c = fitted-fits headCodings (start c .args .t1) (start c .pre .0) i t
+
+field-fits : {w : Width} (i : ℕ) → T (leb (bitsOf (getD capabilityCodings i mark)) (bits w)) → (c : tie.After-origin-of) → Fits w (getD (start c .args .t2) i 0)
+field-fits i t c = fitted-fits capabilityCodings (start c .args .t2) (start c .pre .1) i t
 
 returns : tie.Need-returns
 unfolding capabilityOf
@@ -35,8 +34,7 @@ unfolding headCodings capabilityCodings
 capability-of-spec =
     tie.close
     (tie.spec
-    (λ c. search needs)
-    (λ c. search needs)
+    (λ c. search needs) (λ c. search needs)
     origin-of-requires
     (λ c. search needs)
     (head-fits 2 tt)
@@ -44,8 +42,7 @@ capability-of-spec =
     (field-fits 0 tt)
     (λ c. search needs)
     (field-fits 1 tt)
-    (λ c. search needs)
-    (λ c. search needs)
+    (λ c. search needs) (λ c. search needs)
     (field-fits 3 tt)
     (λ c. search needs)
     (field-fits 4 tt)

@@ -24,7 +24,6 @@ capability-of-requires c κs =
     let after-capability-codes : tie.After-capability-codes = search in
     let after-read-head : tie.After-read-head = search in
     let head = after-read-head .read-head in
-    let start = start in
     let s = start .args .s .now in (
       head-fitted s (head .result) (start .args .at) (search) (head .ensures),
       present-fitted s (head .result) (after-capability-codes .capability-codes .result) _ (start .args .at) (start .pre .1) (head .ensures) (search) (after-read-present .read-present .ensures),
@@ -38,15 +37,13 @@ present-length-requires c κs =
     (omega arith, rw e (capability-codes .small))
 
 -- the place after it
-next : (c : tie.After-present-length) →
-    let a = c .before .before .before .before .before .before .before .before .before .before .before .before .args in
-    a .at + 5 + c .present-length .result ≡ a .at + capabilityLength (drop (a .at) (a .s .now))
+next : (c : tie.After-present-length) → let start : tie.Start = search in
+    start .args .at + 5 + c .present-length .result ≡ start .args .at + capabilityLength (drop (start .args .at) (start .args .s .now))
 next c =
     let start : tie.Start = search in
     let after-capability-codes : tie.After-capability-codes = search in
     let after-read-head : tie.After-read-head = search in
     let head = after-read-head .read-head in
-    let start = start in
     length-reads (start .args .s .now) (head .result) (after-capability-codes .capability-codes .result) (start .args .at) (c .present-length .result) (head .ensures) (after-capability-codes .capability-codes .ensures) (c .present-length .ensures)
 
 add-t32 : tie.Need-add-t32
@@ -63,7 +60,6 @@ returns c =
     let after-read-head : tie.After-read-head = search in
     let head = after-read-head .read-head in
     let codes = after-capability-codes .capability-codes in
-    let start = start in
     let s = start .args .s .now in (
       after-capability-of .capability-of .ensures ∙ capability-reads s (head .result) (codes .result) _ (start .args .at) (search) (head .ensures) (codes .ensures) (after-read-present .read-present .ensures),
       next c,
@@ -74,10 +70,10 @@ pub read-capability-spec : {M : Type 1} → statement M
 read-capability-spec =
     tie.close
     (tie.spec
-    (λ c κs. search needs) (λ c. search needs) (λ c. search needs) (λ c κs. search needs) (λ c. search needs) (λ c. search needs) (λ c. search needs)
-    read-present-requires
+    (λ c κs. search needs) (λ c. search needs) (λ c. search needs) (λ c κs. search needs) (λ c. search needs) (λ c. search needs)
     (λ c. search needs)
-    (λ c κs. search needs)
+    read-present-requires
+    (λ c. search needs) (λ c κs. search needs)
     capability-of-requires
     (λ c. search needs) (λ c. search needs)
     present-length-requires

@@ -19,14 +19,12 @@ returns : tie.Need-returns
 returns c =
     let start : tie.Start = search in
     let after-head-codes : tie.After-head-codes = search in
-    head-reads (start .args .s .now) (after-head-codes .head-codes .result) _ (start .args .at) (after-head-codes .head-codes .ensures) (search)
+    head-reads (start .args .s .now) (after-head-codes .head-codes .result) _ (start .args .at) (search) (search)
 
 pub read-head-spec : {M : Type 1} → statement M
 read-head-spec =
     tie.close
     (tie.spec
-    (λ c κs. search needs)
-    (λ c. search needs)
-    (λ c. search needs)
+    (λ c κs. search needs) (λ c. search needs) (λ c. search needs)
     read-all-requires
     returns)

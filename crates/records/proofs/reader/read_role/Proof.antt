@@ -26,15 +26,13 @@ returns : tie.Need-returns
 returns c =
     let start : tie.Start = search in
     let after-role-codes : tie.After-role-codes = search in
-    c .role-of .ensures ∙ role-reads (start .args .s .now) (after-role-codes .role-codes .result) _ (start .args .at) (search) (after-role-codes .role-codes .ensures) (search) .1
+    c .role-of .ensures ∙ role-reads (start .args .s .now) (after-role-codes .role-codes .result) _ (start .args .at) (search) (search) (search) .1
 
 pub read-role-spec : {M : Type 1} → statement M
 read-role-spec =
     tie.close
     (tie.spec
-    (λ c κs. search needs)
-    (λ c. search needs)
-    (λ c. search needs)
+    (λ c κs. search needs) (λ c. search needs) (λ c. search needs)
     read-all-requires
     role-of-requires
     returns)

@@ -26,15 +26,13 @@ returns : tie.Need-returns
 returns c =
     let start : tie.Start = search in
     let after-session-codes : tie.After-session-codes = search in
-    c .session-of .ensures ∙ session-reads (start .args .s .now) (after-session-codes .session-codes .result) _ (start .args .at) (search) (after-session-codes .session-codes .ensures) (search) .1
+    c .session-of .ensures ∙ session-reads (start .args .s .now) (after-session-codes .session-codes .result) _ (start .args .at) (search) (search) (search) .1
 
 pub read-session-spec : {M : Type 1} → statement M
 read-session-spec =
     tie.close
     (tie.spec
-    (λ c κs. search needs)
-    (λ c. search needs)
-    (λ c. search needs)
+    (λ c κs. search needs) (λ c. search needs) (λ c. search needs)
     read-all-requires
     session-of-requires
     returns)

@@ -1,5 +1,4 @@
 -- `records::reader::role_of` meets its contract.
-use mathlib.Core.Path.{refl}
 use native.Mathlib.Omega.{arith}
 use Rattle.model.specs.Fields.{roleCodings, roleOf}
 use borrow.Author.Needs.{needs}

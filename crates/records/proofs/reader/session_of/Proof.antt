@@ -41,8 +41,7 @@ session-of-spec =
     (tie.spec
     (λ c. search needs)
     cast-t6
-    (λ c. search needs)
-    (λ c. search needs)
+    (λ c. search needs) (λ c. search needs)
     origin-of-requires
     (λ c. search needs)
     cast-t17

@@ -55,16 +55,11 @@ pub put-capability-spec : {M : Type 1} → statement M
 put-capability-spec =
     tie.close
     (tie.spec
-    (λ c κs. search needs)
-    (λ c κs. search needs)
-    (λ c. search needs)
-    (λ c κs. search needs)
+    (λ c κs. search needs) (λ c κs. search needs) (λ c. search needs) (λ c κs. search needs)
     put-head-requires
     sub-put-present
     (λ c. let h = sub-put-present c in search needs)
-    (λ c. search needs)
-    (λ c. search needs)
-    (λ c. search needs)
+    (λ c. search needs) (λ c. search needs) (λ c. search needs)
     put-present-requires
     add-result
     (λ c. search needs)

@@ -25,10 +25,7 @@ pub put-role-spec : {M : Type 1} → statement M
 put-role-spec =
     tie.close
     (tie.spec
-    (λ c κs. search needs)
-    (λ c κs. search needs)
-    (λ c. search needs)
-    (λ c. search needs)
+    (λ c κs. search needs) (λ c κs. search needs) (λ c. search needs) (λ c. search needs)
     put-all-requires
     (λ c. search needs)
     returns)

@@ -1,5 +1,4 @@
 -- `records::record::role_fields` meets its contract.
-use mathlib.Core.Path.{refl}
 use Rattle.model.specs.Fields.{roleFields}
 use borrow.Author.Needs.{needs}
 use Rattle.records.proofs.record.role_fields.Statement.{statement}
