@@ -14,9 +14,6 @@ Inv-loop w mask k n₀ m₀ i₀ n m i = (i ≤ k) × (n + chosenLength w m (k -
 abbrev μ-loop : tie.MeasureT-loop
 μ-loop w mask k n₀ m₀ i₀ n m i = k - i
 
-loop-holds : tie.Need-loop-holds Inv-loop μ-loop
-loop-holds c = (omega arith, rw sub-zero (omega arith), omega arith)
-
 loop-again : tie.Need-loop-again Inv-loop μ-loop
 loop-again c =
     let start : tie.Start Inv-loop μ-loop = search in
@@ -40,4 +37,4 @@ returns c =
 pub chosen-length-spec : {M : Type 1} → statement M
 chosen-length-spec =
     tie.close
-    (tie.spec Inv-loop μ-loop loop-holds (λ c κs. search needs) (λ c. search needs) (λ c. search needs) (λ c. search needs) loop-again returns)
+    (tie.spec Inv-loop μ-loop (λ c. (omega arith, rw sub-zero (omega arith), omega arith)) (λ c κs. search needs) (λ c. search needs) (λ c. search needs) (λ c. search needs) loop-again returns)

@@ -12,18 +12,15 @@ Inv-loop s from mask domains₀ at₀ m₀ i₀ domains at m i = ChosenTo 0 read
 abbrev μ-loop : tie.MeasureT-loop
 μ-loop s from mask domains₀ at₀ m₀ i₀ domains at m i = 64 - i
 
+abbrev at-loop : tie.At-loop Inv-loop μ-loop → tie.At-loop Inv-loop μ-loop
+at-loop c = c
+
 loop-again : tie.Need-loop-again Inv-loop μ-loop
 loop-again c =
     let after-read-domain-if : tie.After-read-domain-if Inv-loop μ-loop = search in
-    let at-loop : tie.At-loop Inv-loop μ-loop = search in
-    chosen-more 0 readDomain 1 64 (at-loop .loop .inv) (search) _ _ (after-read-domain-if .read-domain-if .ensures) (search)
-
-returns : tie.Need-returns Inv-loop μ-loop
-returns c =
-    let at-loop : tie.At-loop Inv-loop μ-loop = search in
-    chosen-all 0 readDomain 1 64 (at-loop .loop .inv) (search)
+    chosen-more 0 readDomain 1 64 (at-loop (search) .loop .inv) (search) _ _ (after-read-domain-if .read-domain-if .ensures) (search)
 
 pub read-domains-spec : {M : Type 1} → statement M
 read-domains-spec =
     tie.close
-    (tie.spec Inv-loop μ-loop (λ c. search needs) (λ c κs. search needs) (λ c. search needs) (λ c κs. search needs) (λ c. search needs) (λ c. search needs) (λ c. search needs) loop-again returns)
+    (tie.spec Inv-loop μ-loop (λ c. search needs) (λ c κs. search needs) (λ c. search needs) (λ c κs. search needs) (λ c. search needs) (λ c. search needs) (λ c. search needs) loop-again (λ c. chosen-all 0 readDomain 1 64 (at-loop (search) .loop .inv) (search)))

@@ -13,18 +13,15 @@ Inv-loop s from mask roles₀ at₀ m₀ i₀ roles at m i = ChosenTo blankRole 
 abbrev μ-loop : tie.MeasureT-loop
 μ-loop s from mask roles₀ at₀ m₀ i₀ roles at m i = 32 - i
 
+abbrev at-loop : tie.At-loop Inv-loop μ-loop → tie.At-loop Inv-loop μ-loop
+at-loop c = c
+
 loop-again : tie.Need-loop-again Inv-loop μ-loop
 loop-again c =
     let after-read-role-if : tie.After-read-role-if Inv-loop μ-loop = search in
-    let at-loop : tie.At-loop Inv-loop μ-loop = search in
-    chosen-more blankRole readRole 20 32 (at-loop .loop .inv) (search) _ _ (after-read-role-if .read-role-if .ensures) (search)
-
-returns : tie.Need-returns Inv-loop μ-loop
-returns c =
-    let at-loop : tie.At-loop Inv-loop μ-loop = search in
-    chosen-all blankRole readRole 20 32 (at-loop .loop .inv) (search)
+    chosen-more blankRole readRole 20 32 (at-loop (search) .loop .inv) (search) _ _ (after-read-role-if .read-role-if .ensures) (search)
 
 pub read-roles-spec : {M : Type 1} → statement M
 read-roles-spec =
     tie.close
-    (tie.spec Inv-loop μ-loop (λ c κs. search needs) (λ c. search needs) (λ c κs. search needs) (λ c. search needs) (λ c. search needs) (λ c κs. search needs) (λ c. search needs) (λ c. search needs) (λ c. search needs) loop-again returns)
+    (tie.spec Inv-loop μ-loop (λ c κs. search needs) (λ c. search needs) (λ c κs. search needs) (λ c. search needs) (λ c. search needs) (λ c κs. search needs) (λ c. search needs) (λ c. search needs) (λ c. search needs) loop-again (λ c. chosen-all blankRole readRole 20 32 (at-loop (search) .loop .inv) (search)))

@@ -38,9 +38,6 @@ returns-2 c =
 array-share-prefix-image : tie.Need-array-share-prefix-image
 array-share-prefix-image c = omega (arith, small (search))
 
-put-bytes-requires : tie.Need-put-bytes-requires
-put-bytes-requires c κs = rw (length-take-le _ _ (array-share-prefix-image (search))) (omega arith)
-
 returns-3 : tie.Need-returns-3
 returns-3 c =
     let start : tie.Start = search in
@@ -65,7 +62,7 @@ save-trusted-spec =
     returns-2
     array-share-prefix-image
     (λ c. sym (length-take-le _ _ (array-share-prefix-image (search))))
-    put-bytes-requires
+    (λ c κs. rw (length-take-le _ _ (array-share-prefix-image (search))) (omega arith))
     (λ c. omega (arith, small (search)))
     (λ c. search needs)
     returns-3)

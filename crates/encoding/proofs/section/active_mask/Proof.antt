@@ -15,27 +15,13 @@ Inv-loop sessions m₀ i₀ m i = MaskFrom (λ (x : Session). x .active) 64 sess
 abbrev μ-loop : tie.MeasureT-loop
 μ-loop sessions m₀ i₀ m i = i
 
-loop-holds : tie.Need-loop-holds Inv-loop μ-loop
-loop-holds c = mask-start tt (search needs)
-
-mul-m : tie.Need-mul-m Inv-loop μ-loop
-mul-m c =
-    let at-loop : tie.At-loop Inv-loop μ-loop = search in
-    omega (arith, mask-fits (at-loop .loop .inv) (search) blankSession refl)
-
-add-m : tie.Need-add-m Inv-loop μ-loop
-add-m c =
-    let at-loop : tie.At-loop Inv-loop μ-loop = search in
-    omega (arith, mask-fits (at-loop .loop .inv) (search) blankSession (c .bit-of .ensures))
-
-loop-again : tie.Need-loop-again Inv-loop μ-loop
-loop-again c = mask-step (search) (search) blankSession (search)
+abbrev at-loop : tie.At-loop Inv-loop μ-loop → tie.At-loop Inv-loop μ-loop
+at-loop c = c
 
 returns : tie.Need-returns Inv-loop μ-loop
 unfolding activeSessions
 returns c =
-    let at-loop : tie.At-loop Inv-loop μ-loop = search in
-    mask-done (at-loop .loop .inv) (search)
+    mask-done (at-loop (search) .loop .inv) (search)
 
 pub active-mask-spec : {M : Type 1} → statement M
 active-mask-spec =
@@ -43,11 +29,11 @@ active-mask-spec =
     (tie.spec
     Inv-loop
     μ-loop
-    loop-holds
+    (λ c. mask-start tt (search needs))
     (λ c. search needs) (λ c. search needs) (λ c. search needs)
-    mul-m
+    (λ c. omega (arith, mask-fits (at-loop (search) .loop .inv) (search) blankSession refl))
     (λ c κs. search needs)
-    add-m
+    (λ c. omega (arith, mask-fits (at-loop (search) .loop .inv) (search) blankSession (c .bit-of .ensures)))
     (λ c. search needs)
-    loop-again
+    (λ c. mask-step (search) (search) blankSession (search))
     returns)

@@ -14,32 +14,17 @@ Inv-loop s₀ count capabilities at₀ i₀ s at i = CapabilitiesTo count capabi
 abbrev μ-loop : tie.MeasureT-loop
 μ-loop s₀ count capabilities at₀ i₀ s at i = count - i
 
+abbrev at-loop : tie.At-loop Inv-loop μ-loop → tie.At-loop Inv-loop μ-loop
+at-loop c = c
+
+abbrev after-put-capability : tie.After-put-capability Inv-loop μ-loop → tie.After-put-capability Inv-loop μ-loop
+after-put-capability c = c
+
 loop-holds : tie.Need-loop-holds Inv-loop μ-loop
 loop-holds c =
     let start : tie.Start Inv-loop μ-loop = search in
     let e : length (start .args .t2) ≡ 256 = search needs in
     capabilities-start (omega arith) (search)
-
-put-capability-requires : tie.Need-put-capability-requires Inv-loop μ-loop
-put-capability-requires c κs =
-    let at-loop : tie.At-loop Inv-loop μ-loop = search in
-    (capabilities-turn (at-loop .loop .inv) (search)) .fits
-
-add-at : tie.Need-add-at Inv-loop μ-loop
-add-at c =
-    let after-put-capability : tie.After-put-capability Inv-loop μ-loop = search in
-    let at-loop : tie.At-loop Inv-loop μ-loop = search in
-    omega (arith, (capabilities-turn (at-loop .loop .inv) (search)) .within (after-put-capability .put-capability .ensures .0))
-
-loop-again : tie.Need-loop-again Inv-loop μ-loop
-loop-again c =
-    let after-put-capability : tie.After-put-capability Inv-loop μ-loop = search in
-    capabilities-next (search) (search) (after-put-capability .put-capability .ensures) (search)
-
-returns : tie.Need-returns Inv-loop μ-loop
-returns c =
-    let at-loop : tie.At-loop Inv-loop μ-loop = search in
-    capabilities-passed (at-loop .loop .inv) (search)
 
 pub put-capabilities-spec : {M : Type 1} → statement M
 put-capabilities-spec =
@@ -49,9 +34,9 @@ put-capabilities-spec =
     μ-loop
     loop-holds
     (λ c. search needs) (λ c. search needs) (λ c. search needs) (λ c. search needs) (λ c. search needs)
-    put-capability-requires
-    add-at
+    (λ c κs. (capabilities-turn (at-loop (search) .loop .inv) (search)) .fits)
+    (λ c. omega (arith, (capabilities-turn (at-loop (search) .loop .inv) (search)) .within (after-put-capability (search) .put-capability .ensures .0)))
     (λ c. search needs) (λ c. search needs)
-    loop-again
+    (λ c. capabilities-next (search) (search) (after-put-capability (search) .put-capability .ensures) (search))
     (λ c. search needs)
-    returns)
+    (λ c. capabilities-passed (at-loop (search) .loop .inv) (search)))

@@ -13,27 +13,11 @@ Inv-loop s₀ mask domains at₀ m₀ i₀ s at m i = ItemsTo (bytesOf 1) 64 mas
 abbrev μ-loop : tie.MeasureT-loop
 μ-loop s₀ mask domains at₀ m₀ i₀ s at m i = 64 - i
 
-put-domain-if-requires : tie.Need-put-domain-if-requires Inv-loop μ-loop
-put-domain-if-requires c κs =
-    let at-loop : tie.At-loop Inv-loop μ-loop = search in
-    (items-turn (at-loop .loop .inv) 0 (search)) .fits
+abbrev at-loop : tie.At-loop Inv-loop μ-loop → tie.At-loop Inv-loop μ-loop
+at-loop c = c
 
-add-at : tie.Need-add-at Inv-loop μ-loop
-add-at c =
-    let after-put-domain-if : tie.After-put-domain-if Inv-loop μ-loop = search in
-    let at-loop : tie.At-loop Inv-loop μ-loop = search in
-    omega (arith, (items-turn (at-loop .loop .inv) 0 (search)) .within (after-put-domain-if .put-domain-if .ensures .0))
-
-loop-again : tie.Need-loop-again Inv-loop μ-loop
-loop-again c =
-    let after-put-domain-if : tie.After-put-domain-if Inv-loop μ-loop = search in
-    let at-loop : tie.At-loop Inv-loop μ-loop = search in
-    items-step (at-loop .loop .inv) 0 (search) (after-put-domain-if .put-domain-if .ensures) (search)
-
-returns : tie.Need-returns Inv-loop μ-loop
-returns c =
-    let at-loop : tie.At-loop Inv-loop μ-loop = search in
-    items-passed (at-loop .loop .inv) (search)
+abbrev after-put-domain-if : tie.After-put-domain-if Inv-loop μ-loop → tie.After-put-domain-if Inv-loop μ-loop
+after-put-domain-if c = c
 
 pub put-domains-spec : {M : Type 1} → statement M
 put-domains-spec =
@@ -42,9 +26,9 @@ put-domains-spec =
     Inv-loop
     μ-loop
     (λ c. search needs) (λ c. search needs) (λ c. search needs) (λ c. search needs) (λ c. search needs)
-    put-domain-if-requires
-    add-at
+    (λ c κs. (items-turn (at-loop (search) .loop .inv) 0 (search)) .fits)
+    (λ c. omega (arith, (items-turn (at-loop (search) .loop .inv) 0 (search)) .within (after-put-domain-if (search) .put-domain-if .ensures .0)))
     (λ c. search needs) (λ c. search needs)
-    loop-again
+    (λ c. items-step (at-loop (search) .loop .inv) 0 (search) (after-put-domain-if (search) .put-domain-if .ensures) (search))
     (λ c. search needs)
-    returns)
+    (λ c. items-passed (at-loop (search) .loop .inv) (search)))

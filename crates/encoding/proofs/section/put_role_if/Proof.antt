@@ -8,16 +8,13 @@ use borrow.Author.Needs.{needs}
 use Rattle.encoding.proofs.section.put_role_if.Statement.{statement}
 use Rattle.encoding.proofs.section.put_role_if.Tie as tie
 
-put-role-requires : tie.Need-put-role-requires
-put-role-requires c κs =
-    let start : tie.Start = search in
-    omega (arith, ap length (chosen-set (start .args .bit) (writeRole (start .args .x)) (search)))
+abbrev start : tie.Start → tie.Start
+start c = c
 
 returns-2 : tie.Need-returns-2
 returns-2 c =
-    let start : tie.Start = search in
     let else1 : tie.Else1 = search in
-    rw (chosen-set (start .args .bit) (writeRole (start .args .x)) (else1 .if1 .left)) (search)
+    rw (chosen-set (start (search) .args .bit) (writeRole (start (search) .args .x)) (else1 .if1 .left)) (search)
 
 pub put-role-if-spec : {M : Type 1} → statement M
-put-role-if-spec = tie.close (tie.spec (λ c. search needs) put-role-requires (λ c. search needs) returns-2)
+put-role-if-spec = tie.close (tie.spec (λ c. search needs) (λ c κs. omega (arith, ap length (chosen-set (start (search) .args .bit) (writeRole (start (search) .args .x)) (search)))) (λ c. search needs) returns-2)

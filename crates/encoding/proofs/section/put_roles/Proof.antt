@@ -14,27 +14,11 @@ Inv-loop s₀ mask roles at₀ m₀ i₀ s at m i = ItemsTo writeRole 32 mask ro
 abbrev μ-loop : tie.MeasureT-loop
 μ-loop s₀ mask roles at₀ m₀ i₀ s at m i = 32 - i
 
-put-role-if-requires : tie.Need-put-role-if-requires Inv-loop μ-loop
-put-role-if-requires c κs =
-    let at-loop : tie.At-loop Inv-loop μ-loop = search in
-    (items-turn (at-loop .loop .inv) blankRole (search)) .fits
+abbrev at-loop : tie.At-loop Inv-loop μ-loop → tie.At-loop Inv-loop μ-loop
+at-loop c = c
 
-add-at : tie.Need-add-at Inv-loop μ-loop
-add-at c =
-    let after-put-role-if : tie.After-put-role-if Inv-loop μ-loop = search in
-    let at-loop : tie.At-loop Inv-loop μ-loop = search in
-    omega (arith, (items-turn (at-loop .loop .inv) blankRole (search)) .within (after-put-role-if .put-role-if .ensures .0))
-
-loop-again : tie.Need-loop-again Inv-loop μ-loop
-loop-again c =
-    let after-put-role-if : tie.After-put-role-if Inv-loop μ-loop = search in
-    let at-loop : tie.At-loop Inv-loop μ-loop = search in
-    items-step (at-loop .loop .inv) blankRole (search) (after-put-role-if .put-role-if .ensures) (search)
-
-returns : tie.Need-returns Inv-loop μ-loop
-returns c =
-    let at-loop : tie.At-loop Inv-loop μ-loop = search in
-    items-passed (at-loop .loop .inv) (search)
+abbrev after-put-role-if : tie.After-put-role-if Inv-loop μ-loop → tie.After-put-role-if Inv-loop μ-loop
+after-put-role-if c = c
 
 pub put-roles-spec : {M : Type 1} → statement M
 put-roles-spec =
@@ -43,9 +27,9 @@ put-roles-spec =
     Inv-loop
     μ-loop
     (λ c. search needs) (λ c. search needs) (λ c. search needs) (λ c. search needs) (λ c. search needs) (λ c. search needs)
-    put-role-if-requires
-    add-at
+    (λ c κs. (items-turn (at-loop (search) .loop .inv) blankRole (search)) .fits)
+    (λ c. omega (arith, (items-turn (at-loop (search) .loop .inv) blankRole (search)) .within (after-put-role-if (search) .put-role-if .ensures .0)))
     (λ c. search needs) (λ c. search needs)
-    loop-again
+    (λ c. items-step (at-loop (search) .loop .inv) blankRole (search) (after-put-role-if (search) .put-role-if .ensures) (search))
     (λ c. search needs)
-    returns)
+    (λ c. items-passed (at-loop (search) .loop .inv) (search)))

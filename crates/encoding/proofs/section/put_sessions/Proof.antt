@@ -14,27 +14,11 @@ Inv-loop s₀ mask sessions at₀ m₀ i₀ s at m i = ItemsTo writeSession 64 m
 abbrev μ-loop : tie.MeasureT-loop
 μ-loop s₀ mask sessions at₀ m₀ i₀ s at m i = 64 - i
 
-put-session-if-requires : tie.Need-put-session-if-requires Inv-loop μ-loop
-put-session-if-requires c κs =
-    let at-loop : tie.At-loop Inv-loop μ-loop = search in
-    (items-turn (at-loop .loop .inv) blankSession (search)) .fits
+abbrev at-loop : tie.At-loop Inv-loop μ-loop → tie.At-loop Inv-loop μ-loop
+at-loop c = c
 
-add-at : tie.Need-add-at Inv-loop μ-loop
-add-at c =
-    let after-put-session-if : tie.After-put-session-if Inv-loop μ-loop = search in
-    let at-loop : tie.At-loop Inv-loop μ-loop = search in
-    omega (arith, (items-turn (at-loop .loop .inv) blankSession (search)) .within (after-put-session-if .put-session-if .ensures .0))
-
-loop-again : tie.Need-loop-again Inv-loop μ-loop
-loop-again c =
-    let after-put-session-if : tie.After-put-session-if Inv-loop μ-loop = search in
-    let at-loop : tie.At-loop Inv-loop μ-loop = search in
-    items-step (at-loop .loop .inv) blankSession (search) (after-put-session-if .put-session-if .ensures) (search)
-
-returns : tie.Need-returns Inv-loop μ-loop
-returns c =
-    let at-loop : tie.At-loop Inv-loop μ-loop = search in
-    items-passed (at-loop .loop .inv) (search)
+abbrev after-put-session-if : tie.After-put-session-if Inv-loop μ-loop → tie.After-put-session-if Inv-loop μ-loop
+after-put-session-if c = c
 
 pub put-sessions-spec : {M : Type 1} → statement M
 put-sessions-spec =
@@ -43,9 +27,9 @@ put-sessions-spec =
     Inv-loop
     μ-loop
     (λ c. search needs) (λ c. search needs) (λ c. search needs) (λ c. search needs) (λ c. search needs) (λ c. search needs)
-    put-session-if-requires
-    add-at
+    (λ c κs. (items-turn (at-loop (search) .loop .inv) blankSession (search)) .fits)
+    (λ c. omega (arith, (items-turn (at-loop (search) .loop .inv) blankSession (search)) .within (after-put-session-if (search) .put-session-if .ensures .0)))
     (λ c. search needs) (λ c. search needs)
-    loop-again
+    (λ c. items-step (at-loop (search) .loop .inv) blankSession (search) (after-put-session-if (search) .put-session-if .ensures) (search))
     (λ c. search needs)
-    returns)
+    (λ c. items-passed (at-loop (search) .loop .inv) (search)))

@@ -17,35 +17,24 @@ Inv-loop values m₀ i₀ m i = (i ≤ length values) × (m ≡ fieldMap (drop i
 abbrev μ-loop : tie.MeasureT-loop
 μ-loop values m₀ i₀ m i = i
 
+abbrev start : tie.Start Inv-loop μ-loop → tie.Start Inv-loop μ-loop
+start c = c
+
+abbrev at-loop : tie.At-loop Inv-loop μ-loop → tie.At-loop Inv-loop μ-loop
+at-loop c = c
+
 loop-holds : tie.Need-loop-holds Inv-loop μ-loop
 loop-holds c =
-    let start : tie.Start Inv-loop μ-loop = search in
-    let v = start .args .values .now in (omega arith, sym (ap fieldMap (drop-of-length-le v {i = length v} (omega arith))), start .pre)
-
-mul-m : tie.Need-mul-m Inv-loop μ-loop
-mul-m c =
-    let start : tie.Start Inv-loop μ-loop = search in
-    let at-loop : tie.At-loop Inv-loop μ-loop = search in
-    omega (arith, map-below (start .args .values .now) (at-loop .loop .i) (search))
+    let v = start (search) .args .values .now in (omega arith, sym (ap fieldMap (drop-of-length-le v {i = length v} (omega arith))), start (search) .pre)
 
 add-m : tie.Need-add-m Inv-loop μ-loop
 add-m c =
-    let start : tie.Start Inv-loop μ-loop = search in
-    let at-loop : tie.At-loop Inv-loop μ-loop = search in
-    omega (arith, map-below (start .args .values .now) (at-loop .loop .i) (search), isSet-le (getD (start .args .values .now) (at-loop .loop .i - 1) 0))
+    omega (arith, map-below (start (search) .args .values .now) (at-loop (search) .loop .i) (search), isSet-le (getD (start (search) .args .values .now) (at-loop (search) .loop .i - 1) 0))
 
 loop-again : tie.Need-loop-again Inv-loop μ-loop
 loop-again c =
-    let start : tie.Start Inv-loop μ-loop = search in
     let in-loop : tie.In-loop Inv-loop μ-loop = search in
-    let at-loop : tie.At-loop Inv-loop μ-loop = search in
-    (omega arith, omega (arith, map-step (start .args .values .now) (at-loop .loop .i) (in-loop .loop-test .taken) (search)), at-loop .loop .inv .2)
-
-returns : tie.Need-returns Inv-loop μ-loop
-returns c =
-    let start : tie.Start Inv-loop μ-loop = search in
-    let at-loop : tie.At-loop Inv-loop μ-loop = search in
-    at-loop .loop .inv .1 ∙ ap (λ (i : ℕ). fieldMap (drop i (start .args .values .now))) (le-zero (c .loop-test .left))
+    (omega arith, omega (arith, map-step (start (search) .args .values .now) (at-loop (search) .loop .i) (in-loop .loop-test .taken) (search)), at-loop (search) .loop .inv .2)
 
 pub field-map-spec : {M : Type 1} → statement M
 field-map-spec =
@@ -55,9 +44,9 @@ field-map-spec =
     μ-loop
     loop-holds
     (λ c. search needs)
-    mul-m
+    (λ c. omega (arith, map-below (start (search) .args .values .now) (at-loop (search) .loop .i) (search)))
     (λ c. search needs) (λ c. search needs) (λ c κs. search needs)
     add-m
     (λ c. search needs)
     loop-again
-    returns)
+    (λ c. at-loop (search) .loop .inv .1 ∙ ap (λ (i : ℕ). fieldMap (drop i (start (search) .args .values .now))) (le-zero (c .loop-test .left))))

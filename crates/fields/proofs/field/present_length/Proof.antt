@@ -18,23 +18,19 @@ Inv-loop map codes n₀ m₀ i₀ n m i =
 abbrev μ-loop : tie.MeasureT-loop
 μ-loop map codes n₀ m₀ i₀ n m i = length codes - i
 
-cast-width-of : tie.Need-cast-width-of Inv-loop μ-loop
-cast-width-of c =
-    let at-loop : tie.At-loop Inv-loop μ-loop = search in
-    omega (arith, c .shared-slice-known2 .given (at-loop .loop .i))
+abbrev at-loop : tie.At-loop Inv-loop μ-loop → tie.At-loop Inv-loop μ-loop
+at-loop c = c
 
 add-n : tie.Need-add-n Inv-loop μ-loop
 add-n c =
     let start : tie.Start Inv-loop μ-loop = search in
-    let at-loop : tie.At-loop Inv-loop μ-loop = search in
-    omega (arith, narrow-at (start .args .codes .now) (at-loop .loop .i) (search) (omega arith))
+    omega (arith, narrow-at (start .args .codes .now) (at-loop (search) .loop .i) (search) (omega arith))
 
 loop-again : tie.Need-loop-again Inv-loop μ-loop
 loop-again c =
     let start : tie.Start Inv-loop μ-loop = search in
-    let at-loop : tie.At-loop Inv-loop μ-loop = search in
     let codes = start .args .codes .now in
-    let l = at-loop .loop in
+    let l = at-loop (search) .loop in
     let n : c .if-set .result ≡ l .m % 2 * width (codingOf (getD codes (l .i) 0)) = cc in (
       omega arith,
       omega (arith, length-step codes (l .i) (omega arith) (l .m)),
@@ -44,9 +40,8 @@ loop-again c =
 returns : tie.Need-returns Inv-loop μ-loop
 returns c =
     let start : tie.Start Inv-loop μ-loop = search in
-    let at-loop : tie.At-loop Inv-loop μ-loop = search in
     let codes = start .args .codes .now in
-    let l = at-loop .loop in
+    let l = at-loop (search) .loop in
     let e : drop (l .i) codes ≡ [] = drop-of-length-le codes {i = l .i} (omega arith) in
     omega (arith, rw e at (l .inv .1))
 
@@ -57,7 +52,7 @@ present-length-spec =
     Inv-loop
     μ-loop
     (λ c. search needs) (λ c. search needs)
-    cast-width-of
+    (λ c. omega (arith, c .shared-slice-known2 .given (at-loop (search) .loop .i)))
     (λ c κs. search needs) (λ c κs. search needs)
     add-n
     (λ c. search needs) (λ c. search needs)

@@ -13,32 +13,11 @@ Inv-loop s₀ codes values at₀ i₀ s at i = FieldsTo each-field codes values 
 abbrev μ-loop : tie.MeasureT-loop
 μ-loop s₀ codes values at₀ i₀ s at i = length codes - i
 
-cast-put-field : tie.Need-cast-put-field Inv-loop μ-loop
-cast-put-field c =
-    let at-loop : tie.At-loop Inv-loop μ-loop = search in
-    omega (arith, c .shared-slice-known3 .given (at-loop .loop .i))
+abbrev at-loop : tie.At-loop Inv-loop μ-loop → tie.At-loop Inv-loop μ-loop
+at-loop c = c
 
-put-field-requires : tie.Need-put-field-requires Inv-loop μ-loop
-put-field-requires c κs =
-    let at-loop : tie.At-loop Inv-loop μ-loop = search in
-    (fields-turn (at-loop .loop .inv) (search)) .fits
-
-add-at : tie.Need-add-at Inv-loop μ-loop
-add-at c =
-    let after-put-field : tie.After-put-field Inv-loop μ-loop = search in
-    let at-loop : tie.At-loop Inv-loop μ-loop = search in
-    omega (arith, (fields-turn (at-loop .loop .inv) (search)) .within (after-put-field .put-field .ensures .0))
-
-loop-again : tie.Need-loop-again Inv-loop μ-loop
-loop-again c =
-    let after-put-field : tie.After-put-field Inv-loop μ-loop = search in
-    let at-loop : tie.At-loop Inv-loop μ-loop = search in
-    fields-step (at-loop .loop .inv) (search) (after-put-field .put-field .ensures) (search)
-
-returns : tie.Need-returns Inv-loop μ-loop
-returns c =
-    let at-loop : tie.At-loop Inv-loop μ-loop = search in
-    fields-done (at-loop .loop .inv) (search)
+abbrev after-put-field : tie.After-put-field Inv-loop μ-loop → tie.After-put-field Inv-loop μ-loop
+after-put-field c = c
 
 pub put-all-spec : {M : Type 1} → statement M
 put-all-spec =
@@ -47,11 +26,11 @@ put-all-spec =
     Inv-loop
     μ-loop
     (λ c. search needs) (λ c. search needs) (λ c. search needs) (λ c. search needs) (λ c. search needs)
-    cast-put-field
+    (λ c. omega (arith, c .shared-slice-known3 .given (at-loop (search) .loop .i)))
     (λ c. search needs) (λ c. search needs)
-    put-field-requires
-    add-at
+    (λ c κs. (fields-turn (at-loop (search) .loop .inv) (search)) .fits)
+    (λ c. omega (arith, (fields-turn (at-loop (search) .loop .inv) (search)) .within (after-put-field (search) .put-field .ensures .0)))
     (λ c. search needs) (λ c. search needs)
-    loop-again
+    (λ c. fields-step (at-loop (search) .loop .inv) (search) (after-put-field (search) .put-field .ensures) (search))
     (λ c. search needs)
-    returns)
+    (λ c. fields-done (at-loop (search) .loop .inv) (search)))

@@ -13,32 +13,11 @@ Inv-loop s₀ codes values at₀ i₀ s at i = FieldsTo each-present codes value
 abbrev μ-loop : tie.MeasureT-loop
 μ-loop s₀ codes values at₀ i₀ s at i = length codes - i
 
-cast-put-set : tie.Need-cast-put-set Inv-loop μ-loop
-cast-put-set c =
-    let at-loop : tie.At-loop Inv-loop μ-loop = search in
-    omega (arith, c .shared-slice-known3 .given (at-loop .loop .i))
+abbrev at-loop : tie.At-loop Inv-loop μ-loop → tie.At-loop Inv-loop μ-loop
+at-loop c = c
 
-put-set-requires : tie.Need-put-set-requires Inv-loop μ-loop
-put-set-requires c κs =
-    let at-loop : tie.At-loop Inv-loop μ-loop = search in
-    (fields-turn (at-loop .loop .inv) (search)) .fits
-
-add-at : tie.Need-add-at Inv-loop μ-loop
-add-at c =
-    let after-put-set : tie.After-put-set Inv-loop μ-loop = search in
-    let at-loop : tie.At-loop Inv-loop μ-loop = search in
-    omega (arith, (fields-turn (at-loop .loop .inv) (search)) .within (after-put-set .put-set .ensures .0))
-
-loop-again : tie.Need-loop-again Inv-loop μ-loop
-loop-again c =
-    let after-put-set : tie.After-put-set Inv-loop μ-loop = search in
-    let at-loop : tie.At-loop Inv-loop μ-loop = search in
-    fields-step (at-loop .loop .inv) (search) (after-put-set .put-set .ensures) (search)
-
-returns : tie.Need-returns Inv-loop μ-loop
-returns c =
-    let at-loop : tie.At-loop Inv-loop μ-loop = search in
-    fields-done (at-loop .loop .inv) (search)
+abbrev after-put-set : tie.After-put-set Inv-loop μ-loop → tie.After-put-set Inv-loop μ-loop
+after-put-set c = c
 
 pub put-present-spec : {M : Type 1} → statement M
 put-present-spec =
@@ -47,11 +26,11 @@ put-present-spec =
     Inv-loop
     μ-loop
     (λ c. search needs) (λ c. search needs) (λ c. search needs) (λ c. search needs) (λ c. search needs)
-    cast-put-set
+    (λ c. omega (arith, c .shared-slice-known3 .given (at-loop (search) .loop .i)))
     (λ c. search needs) (λ c. search needs)
-    put-set-requires
-    add-at
+    (λ c κs. (fields-turn (at-loop (search) .loop .inv) (search)) .fits)
+    (λ c. omega (arith, (fields-turn (at-loop (search) .loop .inv) (search)) .within (after-put-set (search) .put-set .ensures .0)))
     (λ c. search needs) (λ c. search needs)
-    loop-again
+    (λ c. fields-step (at-loop (search) .loop .inv) (search) (after-put-set (search) .put-set .ensures) (search))
     (λ c. search needs)
-    returns)
+    (λ c. fields-done (at-loop (search) .loop .inv) (search)))

@@ -22,30 +22,17 @@ Inv-loop s from codes out₀ at₀ i₀ out at i =
 abbrev μ-loop : tie.MeasureT-loop
 μ-loop s from codes out₀ at₀ i₀ out at i = length codes - i
 
-cast-code : tie.Need-cast-code Inv-loop μ-loop
-cast-code c =
-    let at-loop : tie.At-loop Inv-loop μ-loop = search in
-    omega (arith, c .shared-slice-known3 .given (at-loop .loop .i))
+abbrev at-loop : tie.At-loop Inv-loop μ-loop → tie.At-loop Inv-loop μ-loop
+at-loop c = c
 
-read-field-requires : tie.Need-read-field-requires Inv-loop μ-loop
-read-field-requires c κs =
-    let start : tie.Start Inv-loop μ-loop = search in
-    let at-loop : tie.At-loop Inv-loop μ-loop = search in
-    omega (arith, narrow-at (start .args .codes .now) (at-loop .loop .i) (search) (omega arith))
-
-add-at : tie.Need-add-at Inv-loop μ-loop
-add-at c =
-    let start : tie.Start Inv-loop μ-loop = search in
-    let at-loop : tie.At-loop Inv-loop μ-loop = search in
-    omega (arith, narrow-at (start .args .codes .now) (at-loop .loop .i) (search) (omega arith))
+abbrev start : tie.Start Inv-loop μ-loop → tie.Start Inv-loop μ-loop
+start c = c
 
 loop-again : tie.Need-loop-again Inv-loop μ-loop
 loop-again c =
-    let start : tie.Start Inv-loop μ-loop = search in
     let after-read-field : tie.After-read-field Inv-loop μ-loop = search in
-    let at-loop : tie.At-loop Inv-loop μ-loop = search in
-    let a = start .args in
-    let l = at-loop .loop in (
+    let a = start (search) .args in
+    let l = at-loop (search) .loop in (
       omega arith,
       read-turn (a .codes .now) (l .i) (omega arith) (l .out) (a .s .now) (l .at) (after-read-field .read-field .result) (c .width-of .result) _ (omega arith) (search) (c .width-of .ensures) (l .inv .1),
       omega (arith, narrow-at (a .codes .now) (l .i) (search) (omega arith)),
@@ -54,10 +41,8 @@ loop-again c =
 
 returns : tie.Need-returns Inv-loop μ-loop
 returns c =
-    let start : tie.Start Inv-loop μ-loop = search in
-    let at-loop : tie.At-loop Inv-loop μ-loop = search in
-    let codes = start .args .codes .now in
-    let l = at-loop .loop in
+    let codes = start (search) .args .codes .now in
+    let l = at-loop (search) .loop in
     let e : drop (l .i) codes ≡ [] = drop-of-length-le codes {i = l .i} (omega arith) in
     sym (fill-done (l .out) (l .i) (omega arith)) ∙ (rw e at (l .inv .1))
 
@@ -68,10 +53,10 @@ read-all-spec =
     Inv-loop
     μ-loop
     (λ c. search needs) (λ c. search needs)
-    cast-code
-    read-field-requires
+    (λ c. omega (arith, c .shared-slice-known3 .given (at-loop (search) .loop .i)))
+    (λ c κs. omega (arith, narrow-at (start (search) .args .codes .now) (at-loop (search) .loop .i) (search) (omega arith)))
     (λ c. search needs) (λ c. search needs) (λ c κs. search needs)
-    add-at
+    (λ c. omega (arith, narrow-at (start (search) .args .codes .now) (at-loop (search) .loop .i) (search) (omega arith)))
     (λ c. search needs) (λ c. search needs)
     loop-again
     (λ c. search needs)

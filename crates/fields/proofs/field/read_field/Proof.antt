@@ -10,10 +10,8 @@ use borrow.Author.Needs.{needs}
 use Rattle.fields.proofs.field.read_field.Statement.{statement}
 use Rattle.fields.proofs.field.read_field.Tie as tie
 
-get-map-requires : tie.Need-get-map-requires
-get-map-requires c κs =
-    let start : tie.Start = search in
-    omega (arith, ap width (code-map (start .args .code) (search)))
+abbrev start : tie.Start → tie.Start
+start c = c
 
 returns : tie.Need-returns
 returns c =
@@ -23,13 +21,7 @@ returns c =
 returns-2 : tie.Need-returns-2
 unfolding codingOf
 returns-2 c =
-    let start : tie.Start = search in
-    sym (ap (λ (k : ℕ). readField (codingOf k) (drop (start .args .at) (start .args .s .now))) (c .if2 .taken))
-
-get-at-requires : tie.Need-get-at-requires
-get-at-requires c κs =
-    let start : tie.Start = search in
-    omega (arith, code-width (start .args .code) (search))
+    sym (ap (λ (k : ℕ). readField (codingOf k) (drop (start (search) .args .at) (start (search) .args .s .now))) (c .if2 .taken))
 
 returns-3 : tie.Need-returns-3
 returns-3 c =
@@ -39,4 +31,4 @@ returns-3 c =
 
 pub read-field-spec : {M : Type 1} → statement M
 read-field-spec =
-    tie.close (tie.spec (λ c. search needs) get-map-requires returns returns-2 get-at-requires returns-3)
+    tie.close (tie.spec (λ c. search needs) (λ c κs. omega (arith, ap width (code-map (start (search) .args .code) (search)))) returns returns-2 (λ c κs. omega (arith, code-width (start (search) .args .code) (search))) returns-3)

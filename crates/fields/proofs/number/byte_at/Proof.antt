@@ -7,16 +7,10 @@ use borrow.Author.Needs.{needs}
 use Rattle.fields.proofs.number.byte_at.Statement.{statement}
 use Rattle.fields.proofs.number.byte_at.Tie as tie
 
-cast-result : tie.Need-cast-result
-cast-result c = omega (arith, c .shared-slice-known .given (search))
-
-returns : tie.Need-returns
-returns c = (refl, c .shared-slice-known .given (search) .fits)
-
 returns-2 : tie.Need-returns-2
 returns-2 c =
     let start : tie.Start = search in
     (sym (List·getD-eq-default (start .args .s .now) 0 (search)), omega arith)
 
 pub byte-at-spec : {M : Type 1} → statement M
-byte-at-spec = tie.close (tie.spec (λ c. search needs) cast-result returns returns-2)
+byte-at-spec = tie.close (tie.spec (λ c. search needs) (λ c. omega (arith, c .shared-slice-known .given (search))) (λ c. (refl, c .shared-slice-known .given (search) .fits)) returns-2)

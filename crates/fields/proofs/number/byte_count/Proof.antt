@@ -14,8 +14,5 @@ returns c =
     let e : length s ≡ 0 = omega arith in
     (sym e, λ i. let h : length s ≤ i = omega arith in rw (List·getD-eq-default s 0 h) (omega arith))
 
-returns-2 : tie.Need-returns-2
-returns-2 c = (refl, λ i. c .shared-slice-known .given i .fits)
-
 pub byte-count-spec : {M : Type 1} → statement M
-byte-count-spec = tie.close (tie.spec returns (λ c. search needs) returns-2)
+byte-count-spec = tie.close (tie.spec returns (λ c. search needs) (λ c. (refl, λ i. c .shared-slice-known .given i .fits)))

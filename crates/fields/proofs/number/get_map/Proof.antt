@@ -17,9 +17,6 @@ Inv-loop s at k x₀ i₀ x i = (i ≤ k) × (x < 256 ^ (k - i)) × (x ≡ maskO
 abbrev μ-loop : tie.MeasureT-loop
 μ-loop s at k x₀ i₀ x i = i
 
-loop-holds : tie.Need-loop-holds Inv-loop μ-loop
-loop-holds c = (omega arith, rw sub-self (omega arith), rw sub-self)
-
 mul-x : tie.Need-mul-x Inv-loop μ-loop
 mul-x c =
     let start : tie.Start Inv-loop μ-loop = search in
@@ -58,7 +55,7 @@ get-map-spec =
     (tie.spec
     Inv-loop
     μ-loop
-    loop-holds
+    (λ c. (omega arith, rw sub-self (omega arith), rw sub-self))
     (λ c. search needs)
     mul-x
     (λ c. search needs) (λ c κs. search needs)

@@ -12,18 +12,8 @@ Inv-loop s₀ k n i₀ x₀ s i x = DigitsFrom byte-digits k n s₀ s i x
 abbrev μ-loop : tie.MeasureT-loop
 μ-loop s₀ k n i₀ x₀ s i x = i
 
-loop-holds : tie.Need-loop-holds Inv-loop μ-loop
-loop-holds c = digits-start (search)
-
-loop-again : tie.Need-loop-again Inv-loop μ-loop
-loop-again c =
-    let at-loop : tie.At-loop Inv-loop μ-loop = search in
-    digits-step (at-loop .loop .inv) (search)
-
-returns : tie.Need-returns Inv-loop μ-loop
-returns c =
-    let at-loop : tie.At-loop Inv-loop μ-loop = search in
-    digits-done (at-loop .loop .inv) (search)
+abbrev at-loop : tie.At-loop Inv-loop μ-loop → tie.At-loop Inv-loop μ-loop
+at-loop c = c
 
 pub put-spec : {M : Type 1} → statement M
-put-spec = tie.close (tie.spec Inv-loop μ-loop loop-holds (λ c. search needs) (λ c. search needs) (λ c. search needs) (λ c. search needs) loop-again (λ c. search needs) returns)
+put-spec = tie.close (tie.spec Inv-loop μ-loop (λ c. digits-start (search)) (λ c. search needs) (λ c. search needs) (λ c. search needs) (λ c. search needs) (λ c. digits-step (at-loop (search) .loop .inv) (search)) (λ c. search needs) (λ c. digits-done (at-loop (search) .loop .inv) (search)))

@@ -18,9 +18,6 @@ Inv-loop s₀ k n i₀ x₀ s i x = (i ≤ k) × (placed i (mapBytes (k - i) x) 
 abbrev μ-loop : tie.MeasureT-loop
 μ-loop s₀ k n i₀ x₀ s i x = k - i
 
-loop-holds : tie.Need-loop-holds Inv-loop μ-loop
-loop-holds c = (omega arith, rw sub-zero, refl)
-
 loop-again : tie.Need-loop-again Inv-loop μ-loop
 loop-again c =
     let start : tie.Start Inv-loop μ-loop = search in
@@ -42,7 +39,7 @@ put-map-spec =
     (tie.spec
     Inv-loop
     μ-loop
-    loop-holds
+    (λ c. (omega arith, rw sub-zero, refl))
     (λ c. search needs) (λ c. search needs) (λ c. search needs) (λ c. search needs)
     loop-again
     (λ c. search needs)
