@@ -42,6 +42,13 @@ pub capability-codes : Says capabilityCodes capabilityCodings
 unfolding codingOf capabilityCodes capabilityCodings
 capability-codes = record { same = refl; small = tt }
 
+-- so n of its codes may be read
+pub says-table : {codes table : List ℕ} {cs : List Coding} (n : ℕ) → n ≤ 16 → codes ≡ table → length table ≡ n → Says table cs
+    → (length codes ≡ n) × (length codes ≤ 16) × T (narrow codes)
+says-table n h e en says =
+    let l = ap length e ∙ en in
+    (l, rw l h, rw e (says .small))
+
 -- ---- what the writers write
 
 -- as many values as codes, and their bytes
@@ -107,17 +114,17 @@ capability-written c s = parts-written (writeHead c) (writeFields c) s (capabili
 pub reads : (codes table f t : List ℕ) (cs : List Coding) → codes ≡ table → codings table ≡ cs → f ≡ readAll (codings codes) t → f ≡ readAll cs t
 reads codes table f t cs e g h = h ∙ ap (λ (l : List ℕ). readAll (codings l) t) e ∙ ap (λ (l : List Coding). readAll l t) g
 
-pub role-reads : (s codes f : List ℕ) (at : ℕ) → Bytes s → codes ≡ roleCodes → f ≡ readAll (codings codes) (drop at s)
+pub role-reads : (s : List ℕ) {codes f : List ℕ} (at : ℕ) → Bytes s → codes ≡ roleCodes → f ≡ readAll (codings codes) (drop at s)
     → Fitted roleCodings f × (roleOf f ≡ readRole (drop at s))
 unfolding readRole
-role-reads s codes f at b e h =
+role-reads s {codes} {f} at b e h =
     let q : f ≡ readAll roleCodings (drop at s) = reads codes roleCodes f (drop at s) roleCodings e (role-codes .same) h in
     (rw q (fitted-all roleCodings (drop at s) (bytes-drop at s b)), ap roleOf q)
 
-pub session-reads : (s codes f : List ℕ) (at : ℕ) → Bytes s → codes ≡ sessionCodes → f ≡ readAll (codings codes) (drop at s)
+pub session-reads : (s : List ℕ) {codes f : List ℕ} (at : ℕ) → Bytes s → codes ≡ sessionCodes → f ≡ readAll (codings codes) (drop at s)
     → Fitted sessionCodings f × (sessionOf f ≡ readSession (drop at s))
 unfolding readSession
-session-reads s codes f at b e h =
+session-reads s {codes} {f} at b e h =
     let q : f ≡ readAll sessionCodings (drop at s) = reads codes sessionCodes f (drop at s) sessionCodings e (session-codes .same) h in
     (rw q (fitted-all sessionCodings (drop at s) (bytes-drop at s b)), ap sessionOf q)
 
@@ -125,11 +132,12 @@ pub head-reads : (s codes f : List ℕ) (at : ℕ) → codes ≡ headCodes → f
 unfolding readHead
 head-reads s codes f at e h = reads codes headCodes f (drop at s) headCodings e (head-codes .same) h
 
-pub head-fitted : (s h : List ℕ) (at : ℕ) → Bytes s → h ≡ readHead (drop at s) → Fitted headCodings h
+pub head-fitted : (s : List ℕ) {h : List ℕ} (at : ℕ) → Bytes s → h ≡ readHead (drop at s) → Fitted headCodings h
 unfolding readHead
-head-fitted s h at b e = rw e (fitted-all headCodings (drop at s) (bytes-drop at s b))
+head-fitted s at b e = rw e (fitted-all headCodings (drop at s) (bytes-drop at s b))
 
-module _ (s h codes f : List ℕ) (at : ℕ) (b : Bytes s) (eh : h ≡ readHead (drop at s)) (ec : codes ≡ capabilityCodes) (ef : f ≡ readPresent (getD h 3 0) (codings codes) (drop (at + 5) s)) where
+module _ (s : List ℕ) {h codes f : List ℕ} (at : ℕ) (b : Bytes s) (eh : h ≡ readHead (drop at s)) (ec : codes ≡ capabilityCodes)
+    (ef : f ≡ readPresent (getD h 3 0) (codings codes) (drop (at + 5) s)) where
   present-is : f ≡ readPresent (getD h 3 0) capabilityCodings (drop (at + 5) s)
   present-is = ef ∙ ap (λ (l : List ℕ). readPresent (getD h 3 0) (codings l) (drop (at + 5) s)) ec ∙ ap (λ (l : List Coding). readPresent (getD h 3 0) l (drop (at + 5) s)) (capability-codes .same)
 
@@ -142,15 +150,15 @@ module _ (s h codes f : List ℕ) (at : ℕ) (b : Bytes s) (eh : h ≡ readHead 
       ap (capabilityOf h) (present-is ∙ ap (readPresent (getD h 3 0) capabilityCodings) (sym (drop-drop 5 at s)))
       ∙ ap (λ (l : List ℕ). capabilityOf l (readPresent (getD l 3 0) capabilityCodings (drop 5 (drop at s)))) eh
 
-  pub exact-reads : (g : ℕ) → g ≡ fieldMap f → (ltb (getD h 0 0) 2 && eqb g (getD h 3 0)) ≡ exactCapability (drop at s)
-  exact-reads g eg =
+  pub exact-reads : {g : ℕ} → g ≡ fieldMap f → (ltb (getD h 0 0) 2 && eqb g (getD h 3 0)) ≡ exactCapability (drop at s)
+  exact-reads eg =
       ap (λ (x : ℕ). ltb (getD h 0 0) 2 && eqb x (getD h 3 0)) (eg ∙ ap fieldMap (present-is ∙ ap (readPresent (getD h 3 0) capabilityCodings) (sym (drop-drop 5 at s))))
       ∙ ap (λ (l : List ℕ). ltb (getD l 0 0) 2 && eqb (fieldMap (readPresent (getD l 3 0) capabilityCodings (drop 5 (drop at s)))) (getD l 3 0)) eh
 
-pub length-reads : (s h codes : List ℕ) (at n : ℕ) → h ≡ readHead (drop at s) → codes ≡ capabilityCodes → n ≡ presentLength (getD h 3 0) (codings codes)
+pub length-reads : (s : List ℕ) {h codes : List ℕ} (at : ℕ) {n : ℕ} → h ≡ readHead (drop at s) → codes ≡ capabilityCodes → n ≡ presentLength (getD h 3 0) (codings codes)
     → at + 5 + n ≡ at + capabilityLength (drop at s)
 unfolding capabilityLength
-length-reads s h codes at n eh ec en =
+length-reads s {h} at {n} eh ec en =
     let q : n ≡ presentLength (getD (readHead (drop at s)) 3 0) capabilityCodings = en ∙ ap (λ (l : List ℕ). presentLength (getD h 3 0) (codings l)) ec ∙ ap (presentLength (getD h 3 0)) (capability-codes .same) ∙ ap (λ (l : List ℕ). presentLength (getD l 3 0) capabilityCodings) eh in
     omega arith
 

@@ -21,11 +21,12 @@ sub-put-sessions c = omega (arith, room (search))
 
 returns : tie.Need-returns
 returns c =
-    let after-put-map : tie.After-put-map = search in
-    let after-put-sessions : tie.After-put-sessions = search in
+    let map : tie.After-put-map = search in
+    let items : tie.After-put-sessions = search in
     let masked : tie.After-active-mask = search in
     let a = start masked .args in
-    rw (← masked .active-mask .ensures) (mapped-written 8 writeSession (masked .active-mask .result) (a .sessions) (a .s .now) (room masked) (after-put-map .put-map .ensures) (after-put-sessions .put-sessions .ensures))
+    let w = mapped-written 8 writeSession _ (a .sessions) (a .s .now) (room masked) (map .put-map .ensures) (items .put-sessions .ensures) in
+    rw (← masked .active-mask .ensures) w
 
 pub put-active-spec : {M : Type 1} → statement M
 put-active-spec =

@@ -17,10 +17,11 @@ sub-put-capabilities c = omega (arith, room (search))
 
 returns : tie.Need-returns
 returns c =
-    let after-put : tie.After-put = search in
-    let after-put-capabilities : tie.After-put-capabilities = search in
+    let count : tie.After-put = search in
+    let items : tie.After-put-capabilities = search in
     let start : tie.Start = search in
-    counted-written (start .args .count) (start .args .capabilities) (start .args .s .now) (room start) (after-put .put .ensures) (after-put-capabilities .put-capabilities .ensures)
+    let a = start .args in
+    counted-written (a .count) (a .capabilities) (a .s .now) (room start) (count .put .ensures) (items .put-capabilities .ensures)
 
 pub put-counted-spec : {M : Type 1} → statement M
 put-counted-spec =

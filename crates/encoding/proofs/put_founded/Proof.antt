@@ -21,11 +21,12 @@ sub-put-roles c = omega (arith, room (search))
 
 returns : tie.Need-returns
 returns c =
-    let after-put-map : tie.After-put-map = search in
-    let after-put-roles : tie.After-put-roles = search in
+    let map : tie.After-put-map = search in
+    let items : tie.After-put-roles = search in
     let masked : tie.After-founded-mask = search in
     let a = start masked .args in
-    rw (← masked .founded-mask .ensures .0) (mapped-written 4 writeRole (masked .founded-mask .result) (a .roles) (a .s .now) (room masked) (after-put-map .put-map .ensures) (after-put-roles .put-roles .ensures))
+    let w = mapped-written 4 writeRole _ (a .roles) (a .s .now) (room masked) (map .put-map .ensures) (items .put-roles .ensures) in
+    rw (← masked .founded-mask .ensures .0) w
 
 pub put-founded-spec : {M : Type 1} → statement M
 put-founded-spec =

@@ -34,26 +34,28 @@ sub-put-active c = omega (arith, room (search))
 returns : tie.Need-returns
 returns c =
     let start : tie.Start = search in
-    let after-s5 : tie.After-s5 = search in
-    let after-put-active : tie.After-put-active = search in
-    let after-s4 : tie.After-s4 = search in
-    let after-put-counted : tie.After-put-counted = search in
-    let after-s3 : tie.After-s3 = search in
-    let after-put-founded : tie.After-put-founded = search in
-    let after-s2 : tie.After-s2 = search in
-    let after-put-users : tie.After-put-users = search in
-    let after-put : tie.After-put = search in
+    let s5 : tie.After-s5 = search in
+    let active : tie.After-put-active = search in
+    let s4 : tie.After-s4 = search in
+    let counted : tie.After-put-counted = search in
+    let s3 : tie.After-s3 = search in
+    let founded : tie.After-put-founded = search in
+    let s2 : tie.After-s2 = search in
+    let users : tie.After-put-users = search in
+    let clock : tie.After-put = search in
+    let room-all = start .pre .1 in
     let r = start .args .r in
     let s₀ = start .args .s .now in
     let d : List ℕ = sessionsBytes r in
     let cd : List ℕ = capabilitiesBytes r ++ d in
     let bcd : List ℕ = rolesBytes r ++ cd in
     let abcd : List ℕ = usersBytes r ++ bcd in
-    let w1 = writing-first (encode r) (bytesOf 4 (r .clock)) abcd s₀ _ 4 (encode-sections r) (sym (length-bytes 4 (r .clock))) (start .pre .1) (after-put .put .ensures) (search) in
-    let w2 = turn (encode r) abcd (usersBytes r) bcd 4 _ s₀ w1 (start .pre .1) refl .step (after-put-users .put-users .ensures) (after-s2 .s2 .given .1) in
-    let w3 = turn (encode r) bcd (rolesBytes r) cd _ _ s₀ w2 (start .pre .1) refl .step (after-put-founded .put-founded .ensures) (after-s3 .s3 .given .1) in
-    let w4 = turn (encode r) cd (capabilitiesBytes r) d _ _ s₀ w3 (start .pre .1) refl .step (after-put-counted .put-counted .ensures) (after-s4 .s4 .given .1) in
-    let w5 = turn (encode r) d d [] _ _ s₀ w4 (search) (sym (append-nil d)) .step (after-put-active .put-active .ensures) (after-s5 .s5 .given .1) in
+    let four = sym (length-bytes 4 (r .clock)) in
+    let w1 = writing-first (encode r) (bytesOf 4 (r .clock)) abcd s₀ _ 4 (encode-sections r) four room-all (clock .put .ensures) (search) in
+    let w2 = turn (encode r) abcd (usersBytes r) bcd 4 _ s₀ w1 room-all refl .step (users .put-users .ensures) (s2 .s2 .given .1) in
+    let w3 = turn (encode r) bcd (rolesBytes r) cd _ _ s₀ w2 room-all refl .step (founded .put-founded .ensures) (s3 .s3 .given .1) in
+    let w4 = turn (encode r) cd (capabilitiesBytes r) d _ _ s₀ w3 room-all refl .step (counted .put-counted .ensures) (s4 .s4 .given .1) in
+    let w5 = turn (encode r) d d [] _ _ s₀ w4 room-all (sym (append-nil d)) .step (active .put-active .ensures) (s5 .s5 .given .1) in
     writing-done (encode r) [] _ _ s₀ w5 refl
 
 pub put-image-spec : {M : Type 1} → statement M

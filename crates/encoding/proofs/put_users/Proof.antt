@@ -19,10 +19,11 @@ sub-put-domains c = omega (arith, room (search))
 
 returns : tie.Need-returns
 returns c =
-    let after-put-map : tie.After-put-map = search in
-    let after-put-domains : tie.After-put-domains = search in
+    let map : tie.After-put-map = search in
+    let items : tie.After-put-domains = search in
     let start : tie.Start = search in
-    mapped-written 8 (bytesOf 1) (start .args .enrolled) (start .args .domains) (start .args .s .now) (room start) (after-put-map .put-map .ensures) (after-put-domains .put-domains .ensures)
+    let a = start .args in
+    mapped-written 8 (bytesOf 1) (a .enrolled) (a .domains) (a .s .now) (room start) (map .put-map .ensures) (items .put-domains .ensures)
 
 pub put-users-spec : {M : Type 1} → statement M
 put-users-spec =

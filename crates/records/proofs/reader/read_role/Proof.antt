@@ -1,38 +1,30 @@
 -- `records::reader::read_role` meets its contract.
-use mathlib.Core.Path.{_≡_, ap, _∙_}
+use mathlib.Core.Path.{_∙_}
 use native.Mathlib.Omega.{arith}
-use lib.ListN.{length}
-use Rattle.records.proofs.Tables.{role-codes, role-count, role-reads}
+use Rattle.records.proofs.Tables.{says-table, role-codes, role-count, role-reads}
 use borrow.Author.Needs.{needs}
 use Rattle.records.proofs.reader.read_role.Statement.{statement}
 use Rattle.records.proofs.reader.read_role.Tie as tie
 
-read-all-requires : tie.Need-read-all-requires
-read-all-requires c κs =
-    let start : tie.Start = search in
-    let after-role-codes : tie.After-role-codes = search in
-    let e = after-role-codes .role-codes .ensures in
-    let n : length (after-role-codes .role-codes .result) ≡ 6 = ap length e ∙ role-count in
-    (start .pre .0, n, omega arith, rw e (role-codes .small))
+abbrev start : tie.Start → tie.Start
+start c = c
 
-role-of-requires : tie.Need-role-of-requires
-role-of-requires c κs =
-    let start : tie.Start = search in
-    let after-read-all : tie.After-read-all = search in
-    let after-role-codes : tie.After-role-codes = search in
-    role-reads (start .args .s .now) (after-role-codes .role-codes .result) _ (start .args .at) (start .pre .1) (search) (after-read-all .read-all .ensures) .0
+abbrev codes : tie.After-role-codes → tie.After-role-codes
+codes c = c
+
+abbrev all : tie.After-read-all → tie.After-read-all
+all c = c
 
 returns : tie.Need-returns
 returns c =
-    let start : tie.Start = search in
-    let after-role-codes : tie.After-role-codes = search in
-    c .role-of .ensures ∙ role-reads (start .args .s .now) (after-role-codes .role-codes .result) _ (start .args .at) (search) (search) (search) .1
+    let a = start (search) .args in
+    c .role-of .ensures ∙ role-reads (a .s .now) (a .at) (search) (codes (search) .role-codes .ensures) (all (search) .read-all .ensures) .1
 
 pub read-role-spec : {M : Type 1} → statement M
 read-role-spec =
     tie.close
     (tie.spec
     (λ c κs. search needs) (λ c. search needs) (λ c. search needs)
-    read-all-requires
-    role-of-requires
+    (λ c κs. let t = says-table 6 (omega arith) (codes (search) .role-codes .ensures) role-count role-codes in (search, t .0, t .1, t .2))
+    (λ c κs. role-reads (start (search) .args .s .now) (start (search) .args .at) (search) (codes (search) .role-codes .ensures) (all (search) .read-all .ensures) .0)
     returns)

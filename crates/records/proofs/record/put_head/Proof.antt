@@ -1,32 +1,33 @@
 -- `records::record::put_head` meets its contract.
+use mathlib.Core.Path.{_≡_}
 use native.Mathlib.Omega.{arith}
-use Rattle.records.proofs.Tables.{head-writes, head-length}
+use lib.ListN.{length}
+use Rattle.records.specs.Codes.{writeHead}
+use Rattle.records.proofs.Tables.{Writes, head-writes, head-length}
 use borrow.Author.Needs.{needs}
 use Rattle.records.proofs.record.put_head.Statement.{statement}
 use Rattle.records.proofs.record.put_head.Tie as tie
 
-put-all-requires : tie.Need-put-all-requires
-put-all-requires c κs =
-    let start : tie.Start = search in
-    let after-head-fields : tie.After-head-fields = search in
-    let after-head-codes : tie.After-head-codes = search in
-    let w = head-writes _ _ (start .args .c) (after-head-codes .head-codes .ensures) (after-head-fields .head-fields .ensures) in
-    (w .amount, rw (w .bytes-are) (omega (arith, head-length (start .args .c))))
+abbrev codes : tie.After-head-fields → tie.After-head-codes
+codes c = search
 
-returns : tie.Need-returns
-returns c =
-    let start : tie.Start = search in
-    let after-put-all : tie.After-put-all = search in
-    let after-head-fields : tie.After-head-fields = search in
-    let after-head-codes : tie.After-head-codes = search in
-    let w = head-writes _ _ (start .args .c) (after-head-codes .head-codes .ensures) (after-head-fields .head-fields .ensures) in
-    rw (w .bytes-are) at (after-put-all .put-all .ensures .1)
+abbrev start : tie.After-head-fields → tie.Start
+start c = search
+
+abbrev all : tie.After-put-all → tie.After-put-all
+all c = c
+
+room : (start : tie.Start) → length (writeHead (start .args .c)) ≡ 5
+room start = head-length (start .args .c)
+
+writes : (c : tie.After-head-fields) → Writes (codes c .head-codes .result) (c .head-fields .result) (writeHead (start c .args .c))
+writes c = head-writes _ _ (start c .args .c) (codes c .head-codes .ensures) (c .head-fields .ensures)
 
 pub put-head-spec : {M : Type 1} → statement M
 put-head-spec =
     tie.close
     (tie.spec
     (λ c κs. search needs) (λ c κs. search needs) (λ c. search needs) (λ c. search needs)
-    put-all-requires
+    (λ c κs. let w = writes (search) in (w .amount, rw (w .bytes-are) (omega (arith, room (search)))))
     (λ c. search needs)
-    returns)
+    (λ c. rw (writes (search) .bytes-are) at (all (search) .put-all .ensures .1)))
