@@ -38,8 +38,8 @@ returns c =
     let ca = ra + 4 + roles .result in
     let era = ap (λ (x : ℕ). 12 + x) (users .ensures .0) in
     let eca = ap (λ (x : ℕ). ra + 4 + x) (roles .ensures .0) in (
-      c .read-rest .ensures .0 ∙ image-register s (enrolled .result) ra (founded .result) ca (enrolled .ensures) era (founded .ensures) eca _ _ _ (search) (search) (search),
-      c .read-rest .ensures .1 ∙ image-exact s (enrolled .result) ra (founded .result) ca (enrolled .ensures) era (founded .ensures) eca,
+      c .read-rest .ensures .0 ∙ image-register s _ ra _ ca (enrolled .ensures) era (founded .ensures) eca _ _ _ (search) (search) (search),
+      c .read-rest .ensures .1 ∙ image-exact s _ ra _ ca (enrolled .ensures) era (founded .ensures) eca,
       after-byte-count .byte-count .ensures .1,
     )
 

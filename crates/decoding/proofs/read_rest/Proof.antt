@@ -62,8 +62,8 @@ returns c =
     let done = l .inv .1 in
     let e : l .i ≡ most .result = omega (arith, done .some, after-loop .loop-test .left) in
     let active = after-get-map .get-map in (
-      rest-register s (a .from) (count .result) (most .result) (l .at) (active .result) (count .ensures) (most .ensures) (read-after done e) (active .ensures) _ _ _ _ _ _ (read-rows done e) (search),
-      rest-exact s (a .from) (count .result) (most .result) (l .at) (active .result) (count .ensures) (most .ensures) (read-after done e) (active .ensures) (length s) (after-chosen-length .chosen-length .result) (l .exact) (after-sessions-exact .sessions-exact .result)
+      rest-register s (a .from) _ _ (l .at) _ (count .ensures) (most .ensures) (read-after done e) (active .ensures) _ _ _ _ _ _ (read-rows done e) (search),
+      rest-exact s (a .from) _ _ (l .at) _ (count .ensures) (most .ensures) (read-after done e) (active .ensures) (length s) (after-chosen-length .chosen-length .result) (l .exact) _
           (read-exact done e) (read-reach done e) (after-sessions-exact .sessions-exact .ensures) (search),
     )
 

@@ -26,7 +26,7 @@ loop-again c =
     let a = start .args in (
       omega arith,
       omega arith,
-      sessions-turn (l .i) (l .at) (l .m) (a .s .now) (l .exact) (after-session-exact-if .session-exact-if .result) (c .if-set .result) _ (omega arith) (after-session-exact-if .session-exact-if .ensures) (search) (l .inv .2),
+      sessions-turn (l .i) (l .at) (l .m) (a .s .now) (l .exact) _ (c .if-set .result) _ (omega arith) (after-session-exact-if .session-exact-if .ensures) (search) (l .inv .2),
     )
 
 returns : tie.Need-returns Inv-loop μ-loop

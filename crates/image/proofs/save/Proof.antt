@@ -12,14 +12,16 @@ returns : tie.Need-returns
 returns c =
     let start : tie.Start = search in
     let after-well-formed : tie.After-well-formed = search in
-    let w = save-broken (start .args .r) (start .args .buffer .now) (sym (after-well-formed .well-formed .ensures) ∙ not-true (after-well-formed .well-formed .result) (search)) in
+    let f = after-well-formed .well-formed in
+    let w = save-broken (start .args .r) (start .args .buffer .now) (sym (f .ensures) ∙ not-true (f .result) (search)) in
     (w .answer, w .leaves)
 
 save-trusted-requires : tie.Need-save-trusted-requires
 save-trusted-requires c κs =
     let start : tie.Start = search in
     let after-well-formed : tie.After-well-formed = search in
-    true→T (wellFormed (start .args .r)) (sym (after-well-formed .well-formed .ensures) ∙ not-false (after-well-formed .well-formed .result) (search))
+    let f = after-well-formed .well-formed in
+    true→T (wellFormed (start .args .r)) (sym (f .ensures) ∙ not-false (f .result) (search))
 
 pub save-spec : {M : Type 1} → statement M
 save-spec =

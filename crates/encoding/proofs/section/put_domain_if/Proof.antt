@@ -17,4 +17,10 @@ returns-2 c =
     rw (chosen-set (start (search) .args .bit) (bytesOf 1 (start (search) .args .d)) (search)) (refl, after-put .put .ensures)
 
 pub put-domain-if-spec : {M : Type 1} → statement M
-put-domain-if-spec = tie.close (tie.spec (λ c. search needs) (λ c κs. omega (arith, ap length (chosen-set (start (search) .args .bit) (bytesOf 1 (start (search) .args .d)) (search)))) (λ c. search needs) returns-2)
+put-domain-if-spec =
+    tie.close
+    (tie.spec
+    (λ c. search needs)
+    (λ c κs. omega (arith, ap length (chosen-set (start (search) .args .bit) (bytesOf 1 (start (search) .args .d)) (search))))
+    (λ c. search needs)
+    returns-2)

@@ -17,4 +17,10 @@ returns-2 c =
     rw (chosen-set (start (search) .args .bit) (writeRole (start (search) .args .x)) (else1 .if1 .left)) (search)
 
 pub put-role-if-spec : {M : Type 1} → statement M
-put-role-if-spec = tie.close (tie.spec (λ c. search needs) (λ c κs. omega (arith, ap length (chosen-set (start (search) .args .bit) (writeRole (start (search) .args .x)) (search)))) (λ c. search needs) returns-2)
+put-role-if-spec =
+    tie.close
+    (tie.spec
+    (λ c. search needs)
+    (λ c κs. omega (arith, ap length (chosen-set (start (search) .args .bit) (writeRole (start (search) .args .x)) (search))))
+    (λ c. search needs)
+    returns-2)

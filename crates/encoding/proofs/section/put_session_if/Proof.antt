@@ -17,4 +17,10 @@ returns-2 c =
     rw (chosen-set (start (search) .args .bit) (writeSession (start (search) .args .x)) (else1 .if1 .left)) (search)
 
 pub put-session-if-spec : {M : Type 1} → statement M
-put-session-if-spec = tie.close (tie.spec (λ c. search needs) (λ c κs. omega (arith, ap length (chosen-set (start (search) .args .bit) (writeSession (start (search) .args .x)) (search)))) (λ c. search needs) returns-2)
+put-session-if-spec =
+    tie.close
+    (tie.spec
+    (λ c. search needs)
+    (λ c κs. omega (arith, ap length (chosen-set (start (search) .args .bit) (writeSession (start (search) .args .x)) (search))))
+    (λ c. search needs)
+    returns-2)

@@ -29,12 +29,15 @@ loop-holds c =
 
 add-m : tie.Need-add-m Inv-loop μ-loop
 add-m c =
-    omega (arith, map-below (start (search) .args .values .now) (at-loop (search) .loop .i) (search), isSet-le (getD (start (search) .args .values .now) (at-loop (search) .loop .i - 1) 0))
+    let v = start (search) .args .values .now in
+    let i = at-loop (search) .loop .i in
+    omega (arith, map-below v i (search), isSet-le (getD v (i - 1) 0))
 
 loop-again : tie.Need-loop-again Inv-loop μ-loop
 loop-again c =
     let in-loop : tie.In-loop Inv-loop μ-loop = search in
-    (omega arith, omega (arith, map-step (start (search) .args .values .now) (at-loop (search) .loop .i) (in-loop .loop-test .taken) (search)), at-loop (search) .loop .inv .2)
+    let l = at-loop (search) .loop in
+    (omega arith, omega (arith, map-step (start (search) .args .values .now) (l .i) (in-loop .loop-test .taken) (search)), l .inv .2)
 
 pub field-map-spec : {M : Type 1} → statement M
 field-map-spec =

@@ -34,7 +34,7 @@ loop-again c =
     let a = start (search) .args in
     let l = at-loop (search) .loop in (
       omega arith,
-      read-turn (a .codes .now) (l .i) (omega arith) (l .out) (a .s .now) (l .at) (after-read-field .read-field .result) (c .width-of .result) _ (omega arith) (search) (c .width-of .ensures) (l .inv .1),
+      read-turn (a .codes .now) (l .i) (omega arith) (l .out) (a .s .now) (l .at) _ _ _ (omega arith) (after-read-field .read-field .ensures) (c .width-of .ensures) (l .inv .1),
       omega (arith, narrow-at (a .codes .now) (l .i) (search) (omega arith)),
       simp length-set (l .inv .3),
     )

@@ -31,4 +31,11 @@ returns-3 c =
 
 pub read-field-spec : {M : Type 1} → statement M
 read-field-spec =
-    tie.close (tie.spec (λ c. search needs) (λ c κs. omega (arith, ap width (code-map (start (search) .args .code) (search)))) returns returns-2 (λ c κs. omega (arith, code-width (start (search) .args .code) (search))) returns-3)
+    tie.close
+    (tie.spec
+    (λ c. search needs)
+    (λ c κs. omega (arith, ap width (code-map (start (search) .args .code) (search))))
+    returns
+    returns-2
+    (λ c κs. omega (arith, code-width (start (search) .args .code) (search)))
+    returns-3)

@@ -35,7 +35,7 @@ loop-again c =
     let l = at-loop (search) .loop in
     let n : c .if-set .result ≡ l .m % 2 * width (codingOf (getD (a .codes .now) (l .i) 0)) = cc in (
       omega arith,
-      read-present-turn (a .codes .now) (l .i) (omega arith) (l .out) (a .s .now) (l .m) (l .at) (after-read-set .read-set .result) (c .if-set .result) _ (omega arith) (after-read-set .read-set .ensures) n (l .inv .1),
+      read-present-turn (a .codes .now) (l .i) (omega arith) (l .out) (a .s .now) (l .m) (l .at) _ _ _ (omega arith) (after-read-set .read-set .ensures) n (l .inv .1),
       omega (arith, narrow-at (a .codes .now) (l .i) (search) (omega arith)),
       simp length-set (l .inv .3),
     )

@@ -13,4 +13,10 @@ returns-2 c =
     (sym (List·getD-eq-default (start .args .s .now) 0 (search)), omega arith)
 
 pub byte-at-spec : {M : Type 1} → statement M
-byte-at-spec = tie.close (tie.spec (λ c. search needs) (λ c. omega (arith, c .shared-slice-known .given (search))) (λ c. (refl, c .shared-slice-known .given (search) .fits)) returns-2)
+byte-at-spec =
+    tie.close
+    (tie.spec
+    (λ c. search needs)
+    (λ c. omega (arith, c .shared-slice-known .given (search)))
+    (λ c. (refl, c .shared-slice-known .given (search) .fits))
+    returns-2)

@@ -16,4 +16,13 @@ abbrev at-loop : tie.At-loop Inv-loop μ-loop → tie.At-loop Inv-loop μ-loop
 at-loop c = c
 
 pub put-spec : {M : Type 1} → statement M
-put-spec = tie.close (tie.spec Inv-loop μ-loop (λ c. digits-start (search)) (λ c. search needs) (λ c. search needs) (λ c. search needs) (λ c. search needs) (λ c. digits-step (at-loop (search) .loop .inv) (search)) (λ c. search needs) (λ c. digits-done (at-loop (search) .loop .inv) (search)))
+put-spec =
+    tie.close
+    (tie.spec
+    Inv-loop
+    μ-loop
+    (λ c. digits-start (search))
+    (λ c. search needs) (λ c. search needs) (λ c. search needs) (λ c. search needs)
+    (λ c. digits-step (at-loop (search) .loop .inv) (search))
+    (λ c. search needs)
+    (λ c. digits-done (at-loop (search) .loop .inv) (search)))

@@ -11,4 +11,10 @@ abbrev start : tie.Start → tie.Start
 start c = c
 
 pub origin-of-spec : {M : Type 1} → statement M
-origin-of-spec = tie.close (tie.spec (λ c. search needs) (λ c. sym (ap (λ (k : ℕ). originOf k (start (search) .args .n)) (c .if1 .taken))) (λ c. search needs) (λ c. sym (origin-capability (start (search) .args .kind) (start (search) .args .n) (search))))
+origin-of-spec =
+    tie.close
+    (tie.spec
+    (λ c. search needs)
+    (λ c. sym (ap (λ (k : ℕ). originOf k (start (search) .args .n)) (c .if1 .taken)))
+    (λ c. search needs)
+    (λ c. sym (origin-capability (start (search) .args .kind) (start (search) .args .n) (search))))
