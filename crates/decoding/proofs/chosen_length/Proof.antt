@@ -38,8 +38,7 @@ pub chosen-length-spec : {M : Type 1} → statement M
 chosen-length-spec =
     tie.close
     (tie.spec
-    Inv-loop
-    μ-loop
+    Inv-loop μ-loop
     (λ c. (omega arith, rw sub-zero (omega arith), omega arith))
     (λ c κs. search needs) (λ c. search needs) (λ c. search needs) (λ c. search needs)
     loop-again

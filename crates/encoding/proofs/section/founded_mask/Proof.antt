@@ -27,8 +27,7 @@ pub founded-mask-spec : {M : Type 1} → statement M
 founded-mask-spec =
     tie.close
     (tie.spec
-    Inv-loop
-    μ-loop
+    Inv-loop μ-loop
     (λ c. mask-start tt (search needs))
     (λ c. search needs) (λ c. search needs) (λ c. search needs)
     (λ c. omega (arith, mask-fits (at-loop (search) .loop .inv) (search) blankRole refl))

@@ -30,8 +30,7 @@ pub put-capabilities-spec : {M : Type 1} → statement M
 put-capabilities-spec =
     tie.close
     (tie.spec
-    Inv-loop
-    μ-loop
+    Inv-loop μ-loop
     loop-holds
     (λ c. search needs) (λ c. search needs) (λ c. search needs) (λ c. search needs) (λ c. search needs)
     (λ c κs. (capabilities-turn (at-loop (search) .loop .inv) (search)) .fits)

@@ -23,9 +23,7 @@ pub put-domains-spec : {M : Type 1} → statement M
 put-domains-spec =
     tie.close
     (tie.spec
-    Inv-loop
-    μ-loop
-    (λ c. search needs) (λ c. search needs) (λ c. search needs) (λ c. search needs) (λ c. search needs)
+    Inv-loop μ-loop (λ c. search needs) (λ c. search needs) (λ c. search needs) (λ c. search needs) (λ c. search needs)
     (λ c κs. (items-turn (at-loop (search) .loop .inv) 0 (search)) .fits)
     (λ c. omega (arith, (items-turn (at-loop (search) .loop .inv) 0 (search)) .within (after-put-domain-if (search) .put-domain-if .ensures .0)))
     (λ c. search needs) (λ c. search needs)

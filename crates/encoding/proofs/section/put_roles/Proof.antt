@@ -24,9 +24,8 @@ pub put-roles-spec : {M : Type 1} → statement M
 put-roles-spec =
     tie.close
     (tie.spec
-    Inv-loop
-    μ-loop
-    (λ c. search needs) (λ c. search needs) (λ c. search needs) (λ c. search needs) (λ c. search needs) (λ c. search needs)
+    Inv-loop μ-loop (λ c. search needs) (λ c. search needs) (λ c. search needs) (λ c. search needs) (λ c. search needs)
+    (λ c. search needs)
     (λ c κs. (items-turn (at-loop (search) .loop .inv) blankRole (search)) .fits)
     (λ c. omega (arith, (items-turn (at-loop (search) .loop .inv) blankRole (search)) .within (after-put-role-if (search) .put-role-if .ensures .0)))
     (λ c. search needs) (λ c. search needs)

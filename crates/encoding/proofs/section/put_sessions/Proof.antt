@@ -24,9 +24,8 @@ pub put-sessions-spec : {M : Type 1} → statement M
 put-sessions-spec =
     tie.close
     (tie.spec
-    Inv-loop
-    μ-loop
-    (λ c. search needs) (λ c. search needs) (λ c. search needs) (λ c. search needs) (λ c. search needs) (λ c. search needs)
+    Inv-loop μ-loop (λ c. search needs) (λ c. search needs) (λ c. search needs) (λ c. search needs) (λ c. search needs)
+    (λ c. search needs)
     (λ c κs. (items-turn (at-loop (search) .loop .inv) blankSession (search)) .fits)
     (λ c. omega (arith, (items-turn (at-loop (search) .loop .inv) blankSession (search)) .within (after-put-session-if (search) .put-session-if .ensures .0)))
     (λ c. search needs) (λ c. search needs)

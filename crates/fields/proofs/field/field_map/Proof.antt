@@ -43,8 +43,7 @@ pub field-map-spec : {M : Type 1} → statement M
 field-map-spec =
     tie.close
     (tie.spec
-    Inv-loop
-    μ-loop
+    Inv-loop μ-loop
     loop-holds
     (λ c. search needs)
     (λ c. omega (arith, map-below (start (search) .args .values .now) (at-loop (search) .loop .i) (search)))

@@ -49,9 +49,7 @@ pub present-length-spec : {M : Type 1} → statement M
 present-length-spec =
     tie.close
     (tie.spec
-    Inv-loop
-    μ-loop
-    (λ c. search needs) (λ c. search needs)
+    Inv-loop μ-loop (λ c. search needs) (λ c. search needs)
     (λ c. omega (arith, c .shared-slice-known2 .given (at-loop (search) .loop .i)))
     (λ c κs. search needs) (λ c κs. search needs)
     add-n

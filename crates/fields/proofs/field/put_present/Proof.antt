@@ -23,9 +23,7 @@ pub put-present-spec : {M : Type 1} → statement M
 put-present-spec =
     tie.close
     (tie.spec
-    Inv-loop
-    μ-loop
-    (λ c. search needs) (λ c. search needs) (λ c. search needs) (λ c. search needs) (λ c. search needs)
+    Inv-loop μ-loop (λ c. search needs) (λ c. search needs) (λ c. search needs) (λ c. search needs) (λ c. search needs)
     (λ c. omega (arith, c .shared-slice-known3 .given (at-loop (search) .loop .i)))
     (λ c. search needs) (λ c. search needs)
     (λ c κs. (fields-turn (at-loop (search) .loop .inv) (search)) .fits)

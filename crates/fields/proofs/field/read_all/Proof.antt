@@ -50,9 +50,7 @@ pub read-all-spec : {M : Type 1} → statement M
 read-all-spec =
     tie.close
     (tie.spec
-    Inv-loop
-    μ-loop
-    (λ c. search needs) (λ c. search needs)
+    Inv-loop μ-loop (λ c. search needs) (λ c. search needs)
     (λ c. omega (arith, c .shared-slice-known3 .given (at-loop (search) .loop .i)))
     (λ c κs. omega (arith, narrow-at (start (search) .args .codes .now) (at-loop (search) .loop .i) (search) (omega arith)))
     (λ c. search needs) (λ c. search needs) (λ c κs. search needs)

@@ -54,8 +54,7 @@ pub get-at-spec : {M : Type 1} → statement M
 get-at-spec =
     tie.close
     (tie.spec
-    Inv-loop
-    μ-loop
+    Inv-loop μ-loop
     loop-holds
     mul-x
     (λ c. search needs) (λ c κs. search needs)

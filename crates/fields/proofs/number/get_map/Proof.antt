@@ -53,8 +53,7 @@ pub get-map-spec : {M : Type 1} → statement M
 get-map-spec =
     tie.close
     (tie.spec
-    Inv-loop
-    μ-loop
+    Inv-loop μ-loop
     (λ c. (omega arith, rw sub-self (omega arith), rw sub-self))
     (λ c. search needs)
     mul-x

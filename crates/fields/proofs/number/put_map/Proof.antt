@@ -37,8 +37,7 @@ pub put-map-spec : {M : Type 1} → statement M
 put-map-spec =
     tie.close
     (tie.spec
-    Inv-loop
-    μ-loop
+    Inv-loop μ-loop
     (λ c. (omega arith, rw sub-zero, refl))
     (λ c. search needs) (λ c. search needs) (λ c. search needs) (λ c. search needs)
     loop-again
