@@ -5,10 +5,10 @@ ghost use Prim.Native.Nat.{_≤_};
 ghost use lib.ListN.{length};
 ghost use Rattle.masks.specs.Bytes.{front};
 ghost use Rattle.model.specs.Lines.{digitCount, digitsOf, answerLine, printed};
-ghost use Rattle.model.specs.Requests.{refusalNumber, outcomeOf};
+ghost use Rattle.model.specs.Requests.{outcomeOf};
 ghost use Rattle.answers.specs.Writing.{written, filled};
 use model::Answer;
-use model::Refusal;
+use model::refusal_number;
 
 // How many decimal digits n has.
 fn digit_count(n: u32) -> usize
@@ -69,30 +69,6 @@ fn put_line(s: &mut [u8], x: u8, y: u8, n: u32) -> usize
     put_digits(&mut s[3..], k, n);
     put_end(&mut s[end..]);
     end + 1
-}
-
-// The document's number of a refusal.
-pub fn refusal_number(why: Refusal) -> u32
-    ensures { λ r. ⌜ r ≡ refusalNumber why ⌝ }
-{
-    match why {
-        Refusal::Malformed => 1,
-        Refusal::Range => 2,
-        Refusal::Missing => 3,
-        Refusal::Unchanged => 4,
-        Refusal::Domain => 5,
-        Refusal::Forbidden => 6,
-        Refusal::Revoked => 7,
-        Refusal::Expired => 8,
-        Refusal::Context => 9,
-        Refusal::Exhausted => 10,
-        Refusal::Exceeds => 11,
-        Refusal::Full => 12,
-        Refusal::Past => 13,
-        Refusal::Image => 14,
-        Refusal::Broken => 15,
-        Refusal::Room => 16,
-    }
 }
 
 // Prints an answer at the front of a buffer and returns how many bytes that takes, 5 to 14. Where the buffer has no room

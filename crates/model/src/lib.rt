@@ -1,6 +1,7 @@
 // The register by value and all that it holds, requests and answers. A capability is document 01's pass.
 ghost use mathlib.Core.Path.{_≡_};
 ghost use Rattle.model.specs.State.{blankRole, blankCapability, blankSession, fresh as freshRegister};
+ghost use Rattle.model.specs.Requests.{refusalNumber};
 
 // What a capability is derived from, and what a session is opened on: a role or a capability, by number.
 pub enum Origin {
@@ -57,7 +58,7 @@ pub struct Register {
     pub sessions: [Session; 64],
 }
 
-// One case for each refusal; `refusalNumber` in specs/Requests.antt gives the document's number.
+// One case for each refusal; `refusal_number` gives the document's number.
 pub enum Refusal {
     Malformed,
     Range,
@@ -151,6 +152,30 @@ pub enum Request {
 pub enum Parsed {
     Line(Request),
     NoRequest,
+}
+
+// The document's number of a refusal.
+pub fn refusal_number(why: Refusal) -> u32
+    ensures { λ r. ⌜ r ≡ refusalNumber why ⌝ }
+{
+    match why {
+        Refusal::Malformed => 1,
+        Refusal::Range => 2,
+        Refusal::Missing => 3,
+        Refusal::Unchanged => 4,
+        Refusal::Domain => 5,
+        Refusal::Forbidden => 6,
+        Refusal::Revoked => 7,
+        Refusal::Expired => 8,
+        Refusal::Context => 9,
+        Refusal::Exhausted => 10,
+        Refusal::Exceeds => 11,
+        Refusal::Full => 12,
+        Refusal::Past => 13,
+        Refusal::Image => 14,
+        Refusal::Broken => 15,
+        Refusal::Room => 16,
+    }
 }
 
 // A role before it is founded.
