@@ -13,8 +13,8 @@ use Rattle.buffers.proofs.Digits.{Digits, length-digits}
 use Rattle.masks.specs.Bytes.{front}
 use Rattle.model.specs.Rulings.{Outcome, value, refused}
 use Rattle.model.specs.Lines.{digitsOf, digitCount, decimal, answerLine, printed}
-use Rattle.answers.specs.Writing.{written, filled}
-use Rattle.answers.proofs.WriteLaws.{written-room, filled-room}
+use Rattle.answers.specs.Writing.{printedInto, filled}
+use Rattle.answers.proofs.WriteLaws.{into-room, filled-room}
 
 -- ---- how many digits
 
@@ -97,7 +97,7 @@ printed-most (value v) = omega (arith, length-line 111 107 v, count-high 9 v)
 printed-most (refused n) = omega (arith, length-line 110 111 n, count-high 9 n)
 
 -- so 14 bytes are room for every answer
-pub printed-room : (o : Outcome) (s : List ℕ) → 14 ≤ length s → (written (printed o) s ≡ front (printed o) s) × (filled (printed o) s ≡ length (printed o))
+pub printed-room : (o : Outcome) (s : List ℕ) → 14 ≤ length s → (printedInto (printed o) s ≡ front (printed o) s) × (filled (printed o) s ≡ length (printed o))
 printed-room o s h =
     let room : length (printed o) ≤ length s = omega (arith, printed-most o) in
-    (written-room (printed o) s room, filled-room (printed o) s room)
+    (into-room (printed o) s room, filled-room (printed o) s room)

@@ -7,8 +7,8 @@ use lib.ListN.{length}
 use Rattle.masks.specs.Bytes.{front}
 
 -- the buffer s with the text at its front; where it has no room for the text, it stays as it was
-unfoldable pub written : List ℕ → List ℕ → List ℕ
-written text s = cond (leb (length text) (length s)) (front text s) s
+unfoldable pub printedInto : List ℕ → List ℕ → List ℕ
+printedInto text s = cond (leb (length text) (length s)) (front text s) s
 
 -- how many bytes of s this fills
 unfoldable pub filled : List ℕ → List ℕ → ℕ

@@ -6,7 +6,7 @@ ghost use lib.ListN.{length};
 ghost use Rattle.masks.specs.Bytes.{front};
 ghost use Rattle.model.specs.Lines.{digitCount, digitsOf, answerLine, printed};
 ghost use Rattle.model.specs.Requests.{outcomeOf};
-ghost use Rattle.answers.specs.Writing.{written, filled};
+ghost use Rattle.answers.specs.Writing.{printedInto, filled};
 use model::Answer;
 use model::refusal_number;
 
@@ -58,7 +58,7 @@ fn put_end(s: &mut [u8])
 // Writes two letters, a space, n and a line feed at the front of s and returns how many bytes that are. Where s has no
 // room for them, it returns 0 and writes nothing.
 fn put_line(s: &mut [u8], x: u8, y: u8, n: u32) -> usize
-    ensures { λ r. ⌜ (r ≡ filled (answerLine (x ∷ y ∷ []) n) (now (s .entry))) × (now (s .exit) ≡ written (answerLine (x ∷ y ∷ []) n) (now (s .entry))) ⌝ }
+    ensures { λ r. ⌜ (r ≡ filled (answerLine (x ∷ y ∷ []) n) (now (s .entry))) × (now (s .exit) ≡ printedInto (answerLine (x ∷ y ∷ []) n) (now (s .entry))) ⌝ }
 {
     let k = digit_count(n);
     let end = 3 + k;
@@ -74,7 +74,7 @@ fn put_line(s: &mut [u8], x: u8, y: u8, n: u32) -> usize
 // Prints an answer at the front of a buffer and returns how many bytes that takes, 5 to 14. Where the buffer has no room
 // for them, it returns 0 and writes nothing.
 pub fn print(buffer: &mut [u8], answer: Answer) -> usize
-    ensures { λ r. ⌜ (r ≡ filled (printed (outcomeOf answer)) (now (buffer .entry))) × (now (buffer .exit) ≡ written (printed (outcomeOf answer)) (now (buffer .entry))) ⌝ }
+    ensures { λ r. ⌜ (r ≡ filled (printed (outcomeOf answer)) (now (buffer .entry))) × (now (buffer .exit) ≡ printedInto (printed (outcomeOf answer)) (now (buffer .entry))) ⌝ }
 {
     match answer {
         Answer::Value(v) => put_line(buffer, b'o', b'k', v),

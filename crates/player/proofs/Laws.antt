@@ -31,8 +31,8 @@ use Rattle.model.proofs.Rules.{kept→, kept←}
 use Rattle.model.proofs.Running.{step-keeps}
 use Rattle.text.specs.Parts.{before}
 use Rattle.player.proofs.Transcripts.{transcript-line}
-use Rattle.answers.specs.Writing.{written, filled}
-use Rattle.answers.proofs.WriteLaws.{written-room, filled-room}
+use Rattle.answers.specs.Writing.{printedInto, filled}
+use Rattle.answers.proofs.WriteLaws.{into-room, filled-room}
 use Rattle.slots.proofs.TermLaws.{Column}
 use Rattle.places.specs.Requests.{roleHeld, capabilityHeld}
 use Rattle.slots.specs.Terms.{OnPlaced}
@@ -98,11 +98,11 @@ module _ (at : ℕ) (o : Outcome) (s : List ℕ) (room : at + length (printed o)
   fits = omega (arith, length-tail at s)
 
   -- the answer printed at `at`
-  pub answer-last : (last : List ℕ) → last ≡ written (printed o) (take (length s - at) (drop at s)) → putMid at (length s - at) s last ≡ placed at (printed o) s
-  answer-last last e = tail-back at (printed o) s last (e ∙ written-room (printed o) _ fits)
+  pub answer-last : (last : List ℕ) → last ≡ printedInto (printed o) (take (length s - at) (drop at s)) → putMid at (length s - at) s last ≡ placed at (printed o) s
+  answer-last last e = tail-back at (printed o) s last (e ∙ into-room (printed o) _ fits)
 
   -- and the texts after it
-  pub answer-step : (ys whole last : List ℕ) → placed at (printed o ++ ys) s ≡ whole → last ≡ written (printed o) (take (length s - at) (drop at s))
+  pub answer-step : (ys whole last : List ℕ) → placed at (printed o ++ ys) s ≡ whole → last ≡ printedInto (printed o) (take (length s - at) (drop at s))
       → placed (at + length (printed o)) ys (putMid at (length s - at) s last) ≡ whole
   answer-step ys whole last h e = ap (placed (at + length (printed o)) ys) (answer-last last e) ∙ placed-append at (printed o) ys s room ∙ h
 
@@ -136,7 +136,7 @@ to-within start input out₀ r out at to p = omega (arith, left-fits start input
 module _ (start : Register) (input out₀ : List ℕ) (r : Register) (out : List ℕ) (at to : ℕ) (p : Playing start input out₀ r out at to)
     (n : ℕ) (line : n ≡ length (before 10 (drop at input))) (more : at + n < length input) (o : Outcome) (next : Register)
     (effect : record { answer = o; after = next } ≡ lineEffect r (take (at + n - at) (drop at input)))
-    (m : ℕ) (last : List ℕ) (printing : (m ≡ filled (printed o) (take (length out - to) (drop to out))) × (last ≡ written (printed o) (take (length out - to) (drop to out)))) where
+    (m : ℕ) (last : List ℕ) (printing : (m ≡ filled (printed o) (take (length out - to) (drop to out))) × (last ≡ printedInto (printed o) (take (length out - to) (drop to out)))) where
   left : transcript r (split 10 (drop at input)) ≡ printed o ++ transcript next (split 10 (drop (at + n + 1) input))
   left =
       transcript-line r input at n line more

@@ -8,7 +8,7 @@ use lib.ListN.{length}
 use borrow.Rule.Slice.PartMut.{putMid}
 use Rattle.buffers.proofs.Parts.{tail-back}
 use Rattle.model.specs.Lines.{digitsOf, answerLine}
-use Rattle.answers.proofs.WriteLaws.{written-room, filled-room, written-short, filled-short}
+use Rattle.answers.proofs.WriteLaws.{into-room, filled-room, into-short, filled-short}
 use Rattle.answers.proofs.AnswerLaws.{count-high, length-line, line-written}
 use borrow.Author.Needs.{needs}
 use Rattle.answers.proofs.put_line.Statement.{statement}
@@ -22,7 +22,7 @@ returns c =
     let a = c .before .before .before .args in
     let text : List ℕ = answerLine (a .x ∷ a .y ∷ []) (a .n) in
     let short : length (a .s .now) < length text = omega (arith, length-line (a .x) (a .y) (a .n)) in
-    (sym (filled-short text (a .s .now) short), sym (written-short text (a .s .now) short))
+    (sym (filled-short text (a .s .now) short), sym (into-short text (a .s .now) short))
 
 returns-2 : tie.Need-returns-2
 returns-2 c =
@@ -38,7 +38,7 @@ returns-2 c =
     (tail-back 3 (digitsOf k (a .n)) head _ (c .before .before .before .before .before .before .put-digits .ensures))
     (tail-back (3 + k) (10 ∷ []) (putMid 3 (length head - 3) head digits) _ (c .before .before .put-end .ensures)) in (
       omega (arith, length-line (a .x) (a .y) (a .n), filled-room text (a .s .now) room),
-      done ∙ sym (written-room text (a .s .now) room),
+      done ∙ sym (into-room text (a .s .now) room),
     )
 
 pub put-line-spec : {M : Type 1} → statement M

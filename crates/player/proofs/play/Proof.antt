@@ -26,7 +26,7 @@ use Rattle.dispatch.proofs.Columns.{column-put}
 use Rattle.dispatch.proofs.Commits.{placed, commit}
 use Rattle.text.specs.Parts.{before}
 use Rattle.player.proofs.Transcripts.{transcript-last, transcript-done}
-use Rattle.answers.specs.Writing.{written, filled}
+use Rattle.answers.specs.Writing.{printedInto, filled}
 use Rattle.player.specs.declared.step.Step.the-variants.{Refuse}
 use Rattle.player.specs.Steps.{Fits}
 use Rattle.player.proofs.Laws.{Playing, left-fits, to-within, turn, no-wrap, line-done, check-done, formed-after, answer-last, answer-size, unended-some}
@@ -125,7 +125,7 @@ Rest s = take (length (s .before .before .before .before .before .before .loop .
 -- a line answered o with the register next, of which m bytes are printed: no sum wraps, and the invariant goes on
 played : (s : tie.After-step-of Inv-loop μ-loop) (o : Outcome) (next : Register) (m : ℕ) (last : List ℕ)
     → record { answer = o; after = next } ≡ lineEffect (s .before .before .before .before .before .before .loop .r) (Line s)
-    → (m ≡ filled (printed o) (Rest s)) × (last ≡ written (printed o) (Rest s))
+    → (m ≡ filled (printed o) (Rest s)) × (last ≡ printedInto (printed o) (Rest s))
     → (s .before .before .before .before .before .before .loop .to + m < 18446744073709551616)
     × (length (putMid (s .before .before .before .before .before .before .loop .to) (length (s .before .before .before .before .before .before .loop .out) - s .before .before .before .before .before .before .loop .to) (s .before .before .before .before .before .before .loop .out) last) ≡ length (s .before .before .before .before .before .before .loop .out)
     → Playing (s .before .before .before .before .before .before .before .before .before .before .before .before .args .start) (s .before .before .before .before .before .before .before .before .before .before .before .before .args .input .now) (s .before .before .before .before .before .before .before .before .before .before .before .before .args .out .now) next (putMid (s .before .before .before .before .before .before .loop .to) (length (s .before .before .before .before .before .before .loop .out) - s .before .before .before .before .before .before .loop .to) (s .before .before .before .before .before .before .loop .out) last) (s .before .before .before .before .before .before .loop .at + s .before .before .before .count-before .result + 1) (s .before .before .before .before .before .before .loop .to + m)
