@@ -1,27 +1,8 @@
--- Laws of machine numbers and of tests.
+-- Laws of tests.
 use mathlib.Core.Path.{_≡_, refl, _∙_, sym}
 use mathlib.Core.Bool.{Bool, true, false, cond, _&&_, and-true, and-assoc}
 use mathlib.Core.List.{List, [], _∷_}
-use Prim.Native.Nat.{ℕ, _*_, _%_, _^_, _<_, _≤_}
-use native.Mathlib.Nat.{one-mul, div-eq-of-lt, lt-of-lt-of-le}
-use native.Mathlib.Omega.{arith}
-use lib.Dec.{lit<}
-use lib.Pow.{shl-exact, pow-mono}
-use Rattle.masks.specs.Masks.{has}
 use Rattle.masks.specs.Tests.{each}
-
--- ---- machine numbers
-
--- the machine's `1 << k` at a width w above k
-pub one-shl : (w k : ℕ) → k < w → (1 * 2 ^ k) % 2 ^ w ≡ 2 ^ k
-one-shl w k h = shl-exact {a = 1} 1 k w (lit< tt) (omega arith) ∙ one-mul (2 ^ k)
-
--- a mask below 2 ^ w has no item from w on
-pub no-bit : (w m k : ℕ) → m < 2 ^ w → w ≤ k → has m k ≡ false
-unfolding has
-no-bit w m k h l = rw (div-eq-of-lt (lt-of-lt-of-le h (pow-mono l)))
-
--- ---- tests
 
 -- a choice by a test whose outcome is known
 pub cond-true : {A : Type 0} {t : Bool} (a b : A) → t ≡ true → cond t a b ≡ a

@@ -3,7 +3,7 @@
 use mathlib.Core.Path.{refl, sym}
 use borrow.Author.Needs.{needs}
 use Rattle.masks.specs.Masks.{has}
-use Rattle.entries.proofs.Laws.{no-bit}
+use Rattle.masks.proofs.MaskLaws.{no-bit}
 use Rattle.entries.proofs.bits.has64.Statement.{statement}
 use Rattle.entries.proofs.bits.has64.Tie as tie
 

@@ -2,7 +2,8 @@
 -- Assumes nothing.
 use mathlib.Core.Path.{sym, _∙_}
 use borrow.Author.Needs.{needs}
-use Rattle.entries.proofs.Laws.{cond-true, one-shl}
+use Rattle.masks.proofs.MaskLaws.{one-shl}
+use Rattle.entries.proofs.Laws.{cond-true}
 use Rattle.entries.proofs.bits.single.Statement.{statement}
 use Rattle.entries.proofs.bits.single.Tie as tie
 
