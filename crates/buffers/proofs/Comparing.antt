@@ -11,16 +11,19 @@ use lib.Dec.{eqb}
 use borrow.Author.Tests.{eqb-true, eq-eqb, ne-eqb}
 use Rattle.masks.specs.Bytes.{sameBytes}
 
-pub same-step : (a b : List ℕ) (i : ℕ) → i < length a → i < length b
-    → sameBytes (drop i a) (drop i b) ≡ (eqb (getD a i 0) (getD b i 0) && sameBytes (drop (i + 1) a) (drop (i + 1) b))
-same-step a b i ha hb = rw (add-one, drop-cons a i 0, drop-cons b i 0)
+-- byte i, where the bytes from i on compare as the whole
+module _ (a b : List ℕ) (i : ℕ) (whole : Bool) (e : sameBytes (drop i a) (drop i b) ≡ whole) (long : length a ≡ length b) where
+  same-step : i < length a → sameBytes (drop i a) (drop i b) ≡ (eqb (getD a i 0) (getD b i 0) && sameBytes (drop (i + 1) a) (drop (i + 1) b))
+  same-step h = let g : i < length b = omega arith in rw (add-one, drop-cons a i 0, drop-cons b i 0)
 
-pub same-more : (a b : List ℕ) (i : ℕ) → i < length a → i < length b → getD a i 0 ≡ getD b i 0
-    → sameBytes (drop (i + 1) a) (drop (i + 1) b) ≡ sameBytes (drop i a) (drop i b)
-same-more a b i ha hb e = sym (same-step a b i ha hb ∙ rw (eq-eqb _ _ e))
+  pub same-more : i < length a → getD a i 0 ≡ getD b i 0 → sameBytes (drop (i + 1) a) (drop (i + 1) b) ≡ whole
+  same-more h q = sym (same-step h ∙ rw (eq-eqb _ _ q)) ∙ e
 
-pub same-less : (a b : List ℕ) (i : ℕ) → i < length a → i < length b → (getD a i 0 ≡ getD b i 0 → ⊥) → sameBytes (drop i a) (drop i b) ≡ false
-same-less a b i ha hb e = same-step a b i ha hb ∙ rw (ne-eqb _ _ e)
+  pub same-less : i < length a → (getD a i 0 ≡ getD b i 0 → ⊥) → false ≡ whole
+  same-less h q = sym (same-step h ∙ rw (ne-eqb _ _ q)) ∙ e
+
+  pub same-done : length a ≤ i → true ≡ whole
+  same-done h = let g : length b ≤ i = omega arith in rw (drop-of-length-le a h, drop-of-length-le b g) at e
 
 and-false : (b : Bool) → (b && false) ≡ false
 and-false true = refl
@@ -31,9 +34,6 @@ same-long [] [] h = absurd (h refl)
 same-long [] (y ∷ ys) h = refl
 same-long (x ∷ xs) [] h = refl
 same-long (x ∷ xs) (y ∷ ys) h = rw (same-long xs ys (λ e. h (ap suc e))) (and-false (eqb x y))
-
-pub same-done : (a b : List ℕ) (i : ℕ) → length a ≤ i → length b ≤ i → sameBytes (drop i a) (drop i b) ≡ true
-same-done a b i ha hb = rw (drop-of-length-le a ha, drop-of-length-le b hb)
 
 no : _≡_ {A = ℕ} 0 1 → ⊥
 no z = omega arith

@@ -2,7 +2,7 @@
 use mathlib.Core.Path.{_≡_, refl, sym, ap, ap₂, _∙_, subst, fun-ext}
 use mathlib.Core.Logic.{_⊎_, inl, inr}
 use mathlib.Core.Bool.{Bool, true, false, cond}
-use Prim.Native.Nat.{ℕ, zero, suc, _+_, _^_, _<_}
+use Prim.Native.Nat.{ℕ, zero, suc, _+_, _*_, _%_, _^_, _<_}
 use native.Mathlib.Nat.{not-suc-le-zero, le-of-suc-le-suc, eq-or-lt-of-le}
 use native.Mathlib.Numerals.{add-one}
 use native.Mathlib.Omega.{arith}
@@ -10,7 +10,7 @@ use lib.Bits.{bitOr}
 use lib.Dec.{T, eqb→eq, eqb-refl}
 use Rattle.masks.specs.Masks.{has, within, joined}
 use Rattle.masks.proofs.Truth.{T→true}
-use Rattle.masks.proofs.MaskLaws.{has-zero, has-single, within-refl, within-trans, within-zero, within-le, within-or, within-or-l, within-or-r}
+use Rattle.masks.proofs.MaskLaws.{has-zero, has-single, within-refl, within-trans, within-zero, within-le, within-or, within-or-l, within-or-r, one-shl}
 
 pub joined-least : (f : ℕ → ℕ) (m n x : ℕ) → ((k : ℕ) → k < n → T (has m k) → T (within (f k) x)) → T (within (joined f m n) x)
 unfolding joined
@@ -44,9 +44,9 @@ pub joined-ext : (f g : ℕ → ℕ) (m n : ℕ) → ((k : ℕ) → f k ≡ g k)
 joined-ext f g m n h = ap (λ (e : ℕ → ℕ). joined e m n) (fun-ext h)
 
 -- one item more
-pub joined-more : (f : ℕ → ℕ) (m n : ℕ) {x y : ℕ} → x ≡ joined f m n → y ≡ bitOr x (cond (has m n) (f n) 0) → y ≡ joined f m (n + 1)
+pub joined-more : (f : ℕ → ℕ) (m n x y : ℕ) → x ≡ joined f m n → y ≡ cond (has m n) (f n) 0 → bitOr x y ≡ joined f m (n + 1)
 unfolding joined
-joined-more f m n p q = rw (add-one) (q ∙ ap (λ (z : ℕ). bitOr z (cond (has m n) (f n) 0)) p)
+joined-more f m n x y p q = rw add-one (ap₂ bitOr p q)
 
 -- the masks of the items go by the masks below n
 pub joined-same : (f g : ℕ → ℕ) (m n : ℕ) → ((k : ℕ) → k < n → f k ≡ g k) → joined f m n ≡ joined g m n
@@ -67,3 +67,7 @@ joined-one f j n g =
       within-le (joined f (2 ^ j) n) (f j) (joined-least f (2 ^ j) n (f j) (λ k l t. subst (λ (x : ℕ). T (within (f k) (f x))) (eqb→eq k j (subst T (has-single j k) t)) (within-refl (f k)))),
       within-le (f j) (joined f (2 ^ j) n) (joined-has f (2 ^ j) n j g (subst T (sym (has-single j j)) (eqb-refl j))),
     )
+
+-- by the machine's `1 << j`
+pub joined-single : (f : ℕ → ℕ) (m j : ℕ) → m ≡ 1 * 2 ^ (j % 32) % 2 ^ 32 → f (j % 32) ≡ joined f m 32
+joined-single f m j e = sym (ap (λ (x : ℕ). joined f x 32) (e ∙ one-shl 32 (j % 32) (omega arith)) ∙ joined-one f (j % 32) 32 (omega arith))

@@ -9,10 +9,10 @@ use native.Mathlib.Omega.{arith}
 use lib.Arith.{bin-ind}
 use lib.Bits.{bitAnd, bitOr, bitXor, differ, and-step, or-step, xor-step, and-shr, or-shr, xor-shr, and-zero-l, or-zero-r, and-le-r, or-lt}
 use lib.Count.{ones, onesIn, ones-step}
-use lib.Dec.{T, eqb, not-T, eqb→eq, eqb-refl, eqb·zero-suc, eqb·suc-zero, eqb·suc-suc, lit<}
+use lib.Dec.{T, eqb, not-T, eqb→eq, eqb·zero-suc, eqb·suc-zero, eqb·suc-suc, lit<}
 use lib.Pow.{shr-shr, pow-pos, pow-lt, pow-mono, shl-exact}
 use Rattle.masks.specs.Masks.{has, within, including, excluding}
-use Rattle.masks.proofs.Truth.{T→true, T→false, and-l, and-r, and-i, or-l, or-r, or-cases, same-test, eq→eqb, decided}
+use Rattle.masks.proofs.Truth.{T→false, and-l, and-r, and-i, or-l, or-r, or-cases, same-test, eq→eqb, decided}
 
 -- ---- one digit
 

@@ -1,5 +1,5 @@
 -- Tests as facts: `T b` says that the test b passed.
-use mathlib.Core.Path.{_≡_, refl, sym, subst}
+use mathlib.Core.Path.{_≡_, refl, sym, _∙_, subst}
 use mathlib.Core.Logic.{_⊎_, inl, inr}
 use mathlib.Core.Bool.{Bool, true, false, cond, not, _&&_, _||_}
 use mathlib.Core.List.{List, [], _∷_}
@@ -8,6 +8,10 @@ use lib.Dec.{T, eqb, leb, ltb, not-T, leb→le, le→leb, ltb→lt, lt→ltb, eq
 use lib.ListN.{getD}
 use native.Mathlib.Omega.{arith}
 use Rattle.masks.specs.Tests.{each, implies}
+
+-- what is known of a result, by what it is equal to
+pub told : {A : Type 0} {x y z : A} → x ≡ y → x ≡ z → y ≡ z
+told p q = sym p ∙ q
 
 pub true→T : (b : Bool) → b ≡ true → T b
 true→T b e = subst T (sym e) tt

@@ -1,5 +1,5 @@
 -- `buffers::same_bytes` meets its contract.
-use mathlib.Core.Path.{_≡_, sym, _∙_}
+use mathlib.Core.Path.{_≡_}
 use Prim.Native.Nat.{_-_, _≤_}
 use native.Mathlib.Omega.{arith}
 use lib.ListN.{length, drop}
@@ -15,26 +15,8 @@ Inv-loop a b i₀ i = (i ≤ length a) × (length a ≡ length b) × (sameBytes 
 abbrev μ-loop : tie.MeasureT-loop
 μ-loop a b i₀ i = length a - i
 
-returns : tie.Need-returns Inv-loop μ-loop
-returns c = sym (same-long (c .before .args .a .now) (c .before .args .b .now) (c .if1 .taken))
-
-returns-2 : tie.Need-returns-2 Inv-loop μ-loop
-returns-2 c =
-    let a = c .before .before .before .before .before .before .args in
-    let l = c .before .before .before .before .loop in
-    sym (same-less (a .a .now) (a .b .now) (l .i) (omega arith) (omega arith) (c .if2 .taken)) ∙ l .inv .2
-
 loop-again : tie.Need-loop-again Inv-loop μ-loop
-loop-again c =
-    let a = c .before .before .before .before .before .before .args in
-    let l = c .before .before .before .before .loop in
-    (omega arith, l .inv .1, same-more (a .a .now) (a .b .now) (l .i) (omega arith) (omega arith) (c .if2 .left) ∙ l .inv .2)
-
-returns-3 : tie.Need-returns-3 Inv-loop μ-loop
-returns-3 c =
-    let a = c .before .before .before .args in
-    let l = c .before .loop in
-    sym (same-done (a .a .now) (a .b .now) (l .i) (omega arith) (omega arith)) ∙ l .inv .2
+loop-again c = (omega arith, search, search same-more)
 
 pub same-bytes-spec : {M : Type 1} → statement M
 same-bytes-spec =
@@ -42,9 +24,9 @@ same-bytes-spec =
     (tie.spec
     Inv-loop
     μ-loop
-    returns
+    (λ c. search same-long)
     (λ c. search needs) (λ c. search needs) (λ c. search needs)
-    returns-2
+    (λ c. search same-less)
     (λ c. search needs) (λ c. search needs)
     loop-again
-    returns-3)
+    (λ c. search same-done))

@@ -4,7 +4,6 @@ use borrow.Author.Needs.{needs}
 use mathlib.Core.Path.{_≡_, ap, _∙_}
 use native.Mathlib.Omega.{arith}
 use Prim.Native.Nat.{_≤_, _-_}
-use lib.Bits.{bitOr}
 use lib.ListN.{getD}
 use Rattle.masks.specs.Masks.{joined}
 use Rattle.masks.proofs.JoinLaws.{joined-more}
@@ -22,7 +21,7 @@ unfolding joined
 loop-holds c = search needs
 
 loop-again : tie.Need-loop-again Inv-loop μ-loop
-loop-again c = (search needs, joined-more _ _ _ (c .before .before .before .loop .inv .1) (ap (bitOr (c .before .before .before .loop .sum)) (c .chosen .ensures)))
+loop-again c = (search needs, search joined-more)
 
 returns : tie.Need-returns Inv-loop μ-loop
 returns c = c .before .loop .inv .1 ∙ ap (joined _ _) (omega arith)
