@@ -1,48 +1,61 @@
 -- Laws of the request words.
-use mathlib.Core.Path.{_≡_, refl, ap}
-use mathlib.Core.Bool.{true}
+use mathlib.Core.Path.{_≡_, refl, sym, ap, _∙_}
+use mathlib.Core.Bool.{Bool, true, false, not}
 use mathlib.Core.List.{List}
-use mathlib.Core.Option.{none}
-use Prim.Native.Nat.{ℕ, _≤_}
+use mathlib.Core.Option.{Option, none, some}
+use Prim.Native.Nat.{ℕ, _-_, _≤_}
 use native.Mathlib.Omega.{arith}
+use borrow.Author.Tests.{not-true, not-false}
 use lib.Dec.{lit<}
-use lib.ListN.{take}
+use lib.ListN.{length, take, drop}
 use lib.Seq.{getD-take}
+use Rattle.buffers.proofs.Parts.{tail}
 use Rattle.buffers.proofs.Comparing.{same-eq}
-use Rattle.masks.specs.Bytes.{sameBytes}
-use Rattle.model.specs.Lines.{Form, forms, byWord, ofNumbers, createIn, openIn, amendIn}
-use Rattle.requests.specs.Spelling.{asks, arity, plainCall}
+use Rattle.masks.specs.Bytes.{bytes, sameBytes}
+use Rattle.model.specs.Calls.{Call}
+use Rattle.model.specs.Lines.{Form, andThen, numbers, forms, byWord, ofNumbers, createIn, openIn, amendIn, request, parse}
+use Rattle.text.specs.Parts.{firstWord, after}
+use Rattle.text.specs.Readers.{valuesOf}
+use Rattle.text.specs.declared.numbers.Numbers.{Numbers as Readings}
+use Rattle.text.proofs.PartLaws.{length-before, split-before}
+use Rattle.requests.specs.Spelling.{letters, asks, arity, plainCall}
 use Rattle.requests.specs.declared.words.One.the-variants.{Clock, Close}
 use Rattle.requests.specs.declared.words.Two.the-variants.{Enrol, Grant, Withdraw, Appoint, Dismiss, Check, Revoke, Same}
 use Rattle.requests.specs.declared.words.Three.the-variants.{Allow, Lend, Hand}
 use Rattle.requests.specs.declared.words.Plain.{Plain}
 use Rattle.requests.specs.declared.words.Plain.the-variants.{Single, Pair, Triple, Found}
+use Rattle.requests.specs.declared.words.Word.{Word}
 use Rattle.requests.specs.declared.words.Word.the-variants.{Numbers, Create, Open, Amend, NoWord}
 
--- a word that is the same as x is looked up as x
-pub hit : (w x : List ℕ) (fs : List Form) → sameBytes w x ≡ true → (args : List (List ℕ)) → byWord w args fs ≡ byWord x args fs
-hit w x fs h args = ap (λ (l : List ℕ). byWord l args fs) (same-eq w x h)
+-- a word that a test b finds spelt as q is looked up as q
+pub hit : (w : List ℕ) (q : Word) (b : Bool) (args : List (List ℕ)) (fs : List Form)
+    → b ≡ sameBytes w (bytes (letters q)) → b ≡ true → byWord (bytes (letters q)) args fs ≡ asks q args → byWord w args fs ≡ asks q args
+hit w q b args fs e t h = rw (same-eq w (bytes (letters q)) (sym e ∙ t)) h
 
 -- ---- what each word asks for
 
-pub asks-create : (args : List (List ℕ)) → asks Create args ≡ createIn args
-unfolding asks forms
-asks-create args = refl
+module _ (w : Word) (args : List (List ℕ)) (o : Option Call) where
+  pub asks-plain : (p : Plain) → w ≡ Numbers p → o ≡ asks (Numbers p) args → o ≡ asks w args
+  asks-plain p e h = rw e h
 
-pub asks-open : (args : List (List ℕ)) → asks Open args ≡ openIn args
-unfolding asks forms
-asks-open args = refl
+  pub asks-create : w ≡ Create → o ≡ createIn args → o ≡ asks w args
+  unfolding asks forms
+  asks-create e h = rw e h
 
-pub asks-amend : (args : List (List ℕ)) → asks Amend args ≡ amendIn args
-unfolding asks forms
-asks-amend args = refl
+  pub asks-open : w ≡ Open → o ≡ openIn args → o ≡ asks w args
+  unfolding asks forms
+  asks-open e h = rw e h
 
-pub asks-none : (args : List (List ℕ)) → asks NoWord args ≡ none
+  pub asks-amend : w ≡ Amend → o ≡ amendIn args → o ≡ asks w args
+  unfolding asks forms
+  asks-amend e h = rw e h
+
+pub asks-none : (w : Word) (args : List (List ℕ)) → w ≡ NoWord → none ≡ asks w args
 unfolding asks forms
-asks-none args = refl
+asks-none w args e = rw e
 
 -- a word that only numbers follow asks for what its numbers say
-pub asks-numbers : (w : Plain) (args : List (List ℕ)) → asks (Numbers w) args ≡ ofNumbers (arity w) (plainCall w) args
+asks-numbers : (w : Plain) (args : List (List ℕ)) → asks (Numbers w) args ≡ ofNumbers (arity w) (plainCall w) args
 unfolding asks forms
 asks-numbers (Single Clock) args = refl
 asks-numbers (Single Close) args = refl
@@ -59,16 +72,43 @@ asks-numbers (Triple Lend) args = refl
 asks-numbers (Triple Hand) args = refl
 asks-numbers Found args = refl
 
-pub arity-small : (w : Plain) → arity w ≤ 12
-arity-small (Single w) = omega arith
-arity-small (Pair w) = omega arith
-arity-small (Triple w) = omega arith
-arity-small Found = omega arith
+pub arity-small : (w : Plain) (k : ℕ) → k ≡ arity w → k ≤ 12
+arity-small (Single w) k e = omega arith
+arity-small (Pair w) k e = omega arith
+arity-small (Triple w) k e = omega arith
+arity-small Found k e = omega arith
 
 -- numbers past its own do not matter to a word
-pub plain-take : (w : Plain) (v : List ℕ) → plainCall w (take (arity w) v) ≡ plainCall w v
+plain-take : (w : Plain) (v : List ℕ) → plainCall w (take (arity w) v) ≡ plainCall w v
 plain-take (Single w) v = rw (getD-take 1 v 0 0 (lit< tt))
 plain-take (Pair w) v = rw (getD-take 2 v 0 0 (lit< tt), getD-take 2 v 1 0 (lit< tt))
 plain-take (Triple w) v = rw (getD-take 3 v 0 0 (lit< tt), getD-take 3 v 1 0 (lit< tt), getD-take 3 v 2 0 (lit< tt))
 plain-take Found v =
     rw (getD-take 5 v 0 0 (lit< tt), getD-take 5 v 1 0 (lit< tt), getD-take 5 v 2 0 (lit< tt), getD-take 5 v 3 0 (lit< tt), getD-take 5 v 4 0 (lit< tt))
+
+-- what the line says, by the numbers that were read
+module _ (w : Plain) (k : ℕ) (s : List ℕ) (r : Readings) (size : k ≡ arity w) (e : valuesOf k r ≡ numbers k (after 32 s)) where
+  plain-told : asks (Numbers w) (after 32 s) ≡ andThen (valuesOf (arity w) r) (λ v. some (plainCall w v))
+  plain-told = asks-numbers w (after 32 s) ∙ rw (sym (rw size at e))
+
+  pub plain-wrong : not (r .ok) ≡ true → none ≡ asks (Numbers w) (after 32 s)
+  plain-wrong h = rw (plain-told, not-true (r .ok) h)
+
+  pub plain-right : not (r .ok) ≡ false → (q : Call) → q ≡ plainCall w (r .v) → some q ≡ asks (Numbers w) (after 32 s)
+  plain-right h q f = rw (plain-told, not-false (r .ok) h, plain-take w (r .v), f)
+
+-- ---- a line, by its first word w
+
+module _ (line w : List ℕ) (e : w ≡ firstWord line) where
+  pub word-within : length w ≤ length line
+  word-within = rw e (length-before 32 line)
+
+  pub line-asks : (q : Word) (o : Option Call) → ((args : List (List ℕ)) → byWord w args forms ≡ asks q args)
+      → o ≡ asks q (after 32 (take (length line - length w) (drop (length w) line))) → o ≡ parse line
+  unfolding parse
+  line-asks q o f h =
+      h
+      ∙ ap (λ (l : List ℕ). asks q (after 32 l)) (tail (length w) line)
+      ∙ sym (f (after 32 (drop (length w) line)))
+      ∙ ap (λ (x : List ℕ). byWord x (after 32 (drop (length x) line)) forms) e
+      ∙ ap request (sym (split-before 32 line))

@@ -2,17 +2,23 @@
 use mathlib.Core.Path.{_≡_, refl, sym, ap, ap₂, _∙_}
 use mathlib.Core.Bool.{Bool, true, false, cond}
 use mathlib.Core.List.{List, [], _∷_}
-use Prim.Native.Nat.{ℕ, zero, suc, _+_, _-_, _≤_, _<_}
+use Prim.Native.Nat.{ℕ, zero, suc, _+_, _-_, _^_, _≤_, _<_}
 use native.Mathlib.Nat.{suc-ne-zero}
 use native.Mathlib.Numerals.{add-one}
 use native.Mathlib.Omega.{arith}
 use borrow.Author.Tests.{eq-eqb, ne-eqb}
 use lib.Dec.{eqb}
+use mir.Syntax.{w64}
+use mir.Val.{Fits}
 use lib.ListN.{length, take, drop, getD, length-drop, drop-of-length-le}
 use lib.Seq.{drop-cons, drop-drop, take-all}
 use Rattle.buffers.proofs.Parts.{tail}
 use Rattle.masks.specs.Bytes.{onto, split}
 use Rattle.text.specs.Parts.{before, firstWord, after}
+
+-- a count within a list that is lent is a machine number
+pub within-fits : (n : ℕ) (s : List ℕ) → n ≤ length s → length s < 2 ^ 64 → Fits w64 n
+within-fits n s h l = record { fits = omega arith }
 
 -- ---- before
 
@@ -20,14 +26,18 @@ before-step : (b : ℕ) (s : List ℕ) (i : ℕ) → i < length s
     → before b (drop i s) ≡ cond (eqb (getD s i 0) b) [] (getD s i 0 ∷ before b (drop (i + 1) s))
 before-step b s i h = rw (add-one, drop-cons s i 0)
 
-pub before-hit : (b : ℕ) (s : List ℕ) (i : ℕ) → i < length s → getD s i 0 ≡ b → before b (drop i s) ≡ []
-before-hit b s i h e = before-step b s i h ∙ rw (eq-eqb _ _ e)
+-- one more byte counted, n the whole count
+module _ (b : ℕ) (s : List ℕ) (i n : ℕ) (e : i + length (before b (drop i s)) ≡ n) where
+  pub count-hit : i < length s → getD s i 0 ≡ b → i ≡ n
+  count-hit h q = let k : before b (drop i s) ≡ [] = before-step b s i h ∙ rw (eq-eqb _ _ q) in omega (arith, ap length k)
 
-pub before-miss : (b : ℕ) (s : List ℕ) (i : ℕ) → i < length s → (getD s i 0 ≡ b → ⊥) → before b (drop i s) ≡ getD s i 0 ∷ before b (drop (i + 1) s)
-before-miss b s i h e = before-step b s i h ∙ rw (ne-eqb _ _ e)
+  pub count-miss : i < length s → (getD s i 0 ≡ b → ⊥) → i + 1 + length (before b (drop (i + 1) s)) ≡ n
+  count-miss h q =
+      let k : before b (drop i s) ≡ getD s i 0 ∷ before b (drop (i + 1) s) = before-step b s i h ∙ rw (ne-eqb _ _ q) in
+      omega (arith, ap length k)
 
-pub before-done : (b : ℕ) (s : List ℕ) (i : ℕ) → length s ≤ i → before b (drop i s) ≡ []
-before-done b s i h = rw (drop-of-length-le s h)
+  pub count-done : length s ≤ i → i ≡ n
+  count-done h = omega (arith, ap (λ (l : List ℕ). length (before b l)) (drop-of-length-le s h))
 
 -- a list's first bytes, as many as stand before b
 pub take-before : (b : ℕ) (s : List ℕ) → take (length (before b s)) s ≡ before b s
@@ -37,6 +47,9 @@ take-before b (x ∷ s) = cases (eqb x b) (take-before b s)
     cases : (t : Bool) → take (length (before b s)) s ≡ before b s → take (length (cond t [] (x ∷ before b s))) (x ∷ s) ≡ cond t [] (x ∷ before b s)
     cases true h = refl
     cases false h = ap (λ (l : List ℕ). x ∷ l) h
+
+pub word-part : (s : List ℕ) (n : ℕ) → n ≡ length (before 32 s) → take n s ≡ firstWord s
+word-part s n e = ap (λ (k : ℕ). take k s) e ∙ take-before 32 s
 
 pub length-before : (b : ℕ) (s : List ℕ) → length (before b s) ≤ length s
 length-before b [] = omega arith

@@ -1,58 +1,18 @@
 -- `requests::amend_request` meets its contract.
 -- Assumes nothing.
-use mathlib.Core.Path.{_≡_, sym, ap, _∙_}
-use mathlib.Core.List.{List}
-use mathlib.Core.Option.{some}
-use Prim.Native.Nat.{ℕ, _≤_}
-use lib.ListN.{length}
-use Rattle.buffers.proofs.Parts.{tail}
-use Rattle.model.specs.Lines.{andThen, amendIn}
-use Rattle.model.specs.Calls.{amend}
-use Rattle.text.specs.Parts.{after}
-use Rattle.text.specs.Readers.{twoIn, byOf, lastChange}
-use Rattle.text.specs.declared.numbers.TwoNumbers.the-variants.{Both}
-use Rattle.text.proofs.NumberLaws.{two-first, two-fits}
-use Rattle.requests.proofs.RequestLaws.{amend-by}
 use borrow.Author.Needs.{needs}
+use Rattle.text.proofs.NumberLaws.{two-fits}
+use Rattle.requests.proofs.RequestLaws.{amend-none, amend-wrong, amend-right}
 use Rattle.requests.proofs.amend_request.Statement.{statement}
 use Rattle.requests.proofs.amend_request.Tie as tie
-
-returns : tie.Need-returns
-returns c =
-    let s = c .before .before .before .before .args .s .now in
-    rw (amend-by (after 32 s), two-first s, sym (c .before .before .read-two .ensures) ∙ c .enum-told .given .1)
-
--- the user and the capability
-first : (c : tie.After-read) → twoIn (c .before .before .before .before .args .s .now) ≡ Both (c .read .given .0 .0) (c .read .given .0 .1 .0) (c .read .given .0 .1 .1 .0)
-first c = sym (c .before .before .read-two .ensures) ∙ c .read .given .1
-
-fits : (c : tie.After-known-told) → c .before .read .given .0 .1 .1 .0 ≤ length (c .before .before .before .before .before .args .s .now)
-fits c = two-fits (c .before .before .before .before .before .args .s .now) (first (c .before))
-
--- what the line says, by what was read
-told : (c : tie.After-last-change)
-    → amendIn (after 32 (c .before .before .before .before .before .before .before .args .s .now))
-    ≡ andThen (byOf (c .last-change .result)) (λ d. some (amend (c .before .before .before .read .given .0 .0) (c .before .before .before .read .given .0 .1 .0) d))
-told c =
-    let s = c .before .before .before .before .before .before .before .args .s .now in
-    let n = c .before .before .before .read .given .0 .1 .1 .0 in
-    let e = sym (c .last-change .ensures ∙ ap (λ (l : List ℕ). lastChange (after 32 l)) (tail n s)) in
-    rw (amend-by (after 32 s), two-first s, first (c .before .before .before), e)
-
-returns-2 : tie.Need-returns-2
-returns-2 c = rw (told (c .before .before), c .enum-told2 .given .1)
-
-returns-3 : tie.Need-returns-3
-returns-3 c = rw (told (c .before .before .before), c .before .changing .given .1)
 
 pub amend-request-spec : {M : Type 1} → statement M
 amend-request-spec =
     tie.close
     (tie.spec
     (λ c κs. search needs) (λ c. search needs) (λ c. search needs)
-    returns
-    fits
-    fits
+    (λ c. search amend-none)
+    (λ c. search two-fits) (λ c. search two-fits)
     (λ c. search needs) (λ c κs. search needs) (λ c. search needs) (λ c. search needs)
-    returns-2
-    returns-3)
+    (λ c. search amend-wrong)
+    (λ c. search amend-right))

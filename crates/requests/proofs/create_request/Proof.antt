@@ -1,60 +1,19 @@
 -- `requests::create_request` meets its contract.
 -- Assumes nothing.
-use mathlib.Core.Path.{_≡_, sym, ap, _∙_}
-use mathlib.Core.List.{List}
-use mathlib.Core.Option.{some}
-use Prim.Native.Nat.{ℕ, _≤_}
-use borrow.Author.Tests.{not-true, not-false}
-use lib.ListN.{length}
-use Rattle.buffers.proofs.Parts.{tail}
-use Rattle.model.specs.Lines.{andThen, createIn}
-use Rattle.text.specs.Parts.{after}
-use Rattle.text.specs.Readers.{numberIn, targetOf, targetIn}
-use Rattle.text.specs.declared.numbers.Number.the-variants.{Read}
-use Rattle.text.proofs.NumberLaws.{number-first, number-fits}
-use Rattle.requests.proofs.RequestLaws.{created, created-take, create-by}
 use borrow.Author.Needs.{needs}
+use Rattle.text.proofs.NumberLaws.{number-fits}
+use Rattle.requests.proofs.RequestLaws.{create-none, create-wrong, create-right}
 use Rattle.requests.proofs.create_request.Statement.{statement}
 use Rattle.requests.proofs.create_request.Tie as tie
-
-returns : tie.Need-returns
-returns c =
-    let s = c .before .before .before .before .args .s .now in
-    rw (create-by (after 32 s), number-first s, sym (c .before .before .read-number .ensures) ∙ c .enum-told .given .1)
-
--- the user's number
-first : (c : tie.After-read) → numberIn (c .before .before .before .before .args .s .now) ≡ Read (c .read .given .0 .0) (c .read .given .0 .1 .0)
-first c = sym (c .before .before .read-number .ensures) ∙ c .read .given .1
-
-fits : (c : tie.After-known-told) → c .before .read .given .0 .1 .0 ≤ length (c .before .before .before .before .before .args .s .now)
-fits c = number-fits (c .before .before .before .before .before .args .s .now) (first (c .before))
-
--- what the line says, by what was read
-told : (c : tie.After-read-target)
-    → createIn (after 32 (c .before .before .before .before .before .before .before .args .s .now)) ≡ andThen (targetOf 12 (c .read-target .result)) (λ t. some (created (c .before .before .before .read .given .0 .0) (t .0) (t .1)))
-told c =
-    let s = c .before .before .before .before .before .before .before .args .s .now in
-    let n = c .before .before .before .read .given .0 .1 .0 in
-    let e = sym (c .read-target .ensures ∙ ap (λ (l : List ℕ). targetIn 12 (after 32 l)) (tail n s)) in
-    rw (create-by (after 32 s), number-first s, first (c .before .before .before), e)
-
-returns-2 : tie.Need-returns-2
-returns-2 c = rw (told (c .before), not-true (c .before .read-target .result .ok) (c .if1 .taken))
-
-returns-3 : tie.Need-returns-3
-returns-3 c =
-    let target = c .before .before .before .before .read-target .result in
-    rw (told (c .before .before .before .before), not-false (target .ok) (c .before .before .before .if1 .left), created-take _ _ (target .v), c .before .context-of .ensures, c .plan-of .ensures)
 
 pub create-request-spec : {M : Type 1} → statement M
 create-request-spec =
     tie.close
     (tie.spec
     (λ c κs. search needs) (λ c. search needs) (λ c. search needs)
-    returns
-    fits
-    fits
+    (λ c. search create-none)
+    (λ c. search number-fits) (λ c. search number-fits)
     (λ c. search needs) (λ c κs. search needs)
-    returns-2
+    (λ c. search create-wrong)
     (λ c κs. search needs) (λ c κs. search needs)
-    returns-3)
+    (λ c. search create-right))

@@ -1,59 +1,39 @@
 -- `requests::words::delegation_word` meets its contract: a word that a test finds is looked up as that word.
 -- Assumes nothing.
-use mathlib.Core.Path.{sym, _∙_}
 use borrow.Author.Needs.{needs}
-use lib.ListN.{drop}
-use Rattle.masks.specs.Bytes.{bytes}
+use Rattle.masks.proofs.Truth.{told}
 use Rattle.model.specs.Lines.{forms}
 use Rattle.requests.specs.Spelling.{asks}
 use Rattle.requests.proofs.WordLaws.{hit}
 use Rattle.requests.proofs.words.delegation_word.Statement.{statement}
 use Rattle.requests.proofs.words.delegation_word.Tie as tie
 
-returns : tie.Need-returns
-unfolding asks forms
-returns c = hit (c .before .before .before .before .args .w .now) (bytes "clock") (drop 6 forms) (sym (c .before .same-bytes .ensures) ∙ c .if1 .taken)
-
-returns-2 : tie.Need-returns-2
-unfolding asks forms
-returns-2 c = hit (c .before .before .before .before .before .before .before .args .w .now) (bytes "create") (drop 6 forms) (sym (c .before .same-bytes2 .ensures) ∙ c .if2 .taken)
-
-returns-3 : tie.Need-returns-3
-unfolding asks forms
-returns-3 c = hit (c .before .before .before .before .before .before .before .before .before .before .args .w .now) (bytes "allow") (drop 6 forms) (sym (c .before .same-bytes3 .ensures) ∙ c .if3 .taken)
-
-returns-4 : tie.Need-returns-4
-unfolding asks forms
-returns-4 c = hit (c .before .before .before .before .before .before .before .before .before .before .before .before .before .args .w .now) (bytes "lend") (drop 6 forms) (sym (c .before .same-bytes4 .ensures) ∙ c .if4 .taken)
-
-returns-5 : tie.Need-returns-5
-unfolding asks forms
-returns-5 c = hit (c .before .before .before .before .before .before .before .before .before .before .before .before .before .before .before .before .args .w .now) (bytes "hand") (drop 6 forms) (sym (c .before .same-bytes5 .ensures) ∙ c .if5 .taken)
-
+-- no word before was found
 returns-6 : tie.Need-returns-6
 unfolding asks forms
 returns-6 c args =
+    let t5 = c .before in
+    let t4 = t5 .before .before .before in
+    let t3 = t4 .before .before .before in
+    let t2 = t3 .before .before .before in
+    let t1 = t2 .before .before .before in
     rw (
-      sym (c .before .before .before .before .before .before .before .before .before .before .before .before .before .before .same-bytes .ensures) ∙ c .before .before .before .before .before .before .before .before .before .before .before .before .before .if1 .left,
-      sym (c .before .before .before .before .before .before .before .before .before .before .before .same-bytes2 .ensures) ∙ c .before .before .before .before .before .before .before .before .before .before .if2 .left,
-      sym (c .before .before .before .before .before .before .before .before .same-bytes3 .ensures) ∙ c .before .before .before .before .before .before .before .if3 .left,
-      sym (c .before .before .before .before .before .same-bytes4 .ensures) ∙ c .before .before .before .before .if4 .left,
-      sym (c .before .before .same-bytes5 .ensures) ∙ c .before .if5 .left,
+      told (t1 .before .same-bytes .ensures) (t1 .if1 .left),
+      told (t2 .before .same-bytes2 .ensures) (t2 .if2 .left),
+      told (t3 .before .same-bytes3 .ensures) (t3 .if3 .left),
+      told (t4 .before .same-bytes4 .ensures) (t4 .if4 .left),
+      told (t5 .before .same-bytes5 .ensures) (t5 .if5 .left),
     ) (c .session-word .ensures args)
 
 pub delegation-word-spec : {M : Type 1} → statement M
+unfolding asks forms
 delegation-word-spec =
     tie.close
     (tie.spec
-    (λ c. search needs) (λ c κs. search needs)
-    returns
-    (λ c. search needs) (λ c κs. search needs)
-    returns-2
-    (λ c. search needs) (λ c κs. search needs)
-    returns-3
-    (λ c. search needs) (λ c κs. search needs)
-    returns-4
-    (λ c. search needs) (λ c κs. search needs)
-    returns-5
+    (λ c. search needs) (λ c κs. search needs) (λ c args. search hit)
+    (λ c. search needs) (λ c κs. search needs) (λ c args. search hit)
+    (λ c. search needs) (λ c κs. search needs) (λ c args. search hit)
+    (λ c. search needs) (λ c κs. search needs) (λ c args. search hit)
+    (λ c. search needs) (λ c κs. search needs) (λ c args. search hit)
     (λ c κs. search needs)
     returns-6)

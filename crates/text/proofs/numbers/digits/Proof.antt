@@ -1,6 +1,6 @@
 -- `text::numbers::digits` meets its contract.
 -- Assumes nothing.
-use mathlib.Core.Path.{_≡_, refl, sym, _∙_}
+use mathlib.Core.Path.{_≡_, refl}
 use Prim.Native.Nat.{_-_, _^_, _≤_, _<_}
 use native.Mathlib.Omega.{arith}
 use lib.ListN.{length, drop}
@@ -19,37 +19,8 @@ abbrev μ-loop : tie.MeasureT-loop
 loop-holds : tie.Need-loop-holds Inv-loop μ-loop
 loop-holds c = (omega arith, omega arith, refl)
 
-returns : tie.Need-returns Inv-loop μ-loop
-returns c =
-    let w = c .before .before .before .before .args .w .now in
-    let l = c .before .before .before .loop in
-    sym (digit-low w (l .i) (l .x) (omega arith) (c .if1 .taken)) ∙ l .inv .2
-
-returns-2 : tie.Need-returns-2 Inv-loop μ-loop
-returns-2 c =
-    let w = c .before .before .before .before .before .args .w .now in
-    let l = c .before .before .before .before .loop in
-    sym (digit-high w (l .i) (l .x) (omega arith) (c .if2 .taken)) ∙ l .inv .2
-
-returns-3 : tie.Need-returns-3 Inv-loop μ-loop
-returns-3 c =
-    let w = c .before .before .before .before .before .before .args .w .now in
-    let l = c .before .before .before .before .before .loop in
-    sym (digit-large w (l .i) (l .x) (omega arith) (omega arith) (omega arith) (omega arith)) ∙ l .inv .2
-
 loop-again : tie.Need-loop-again Inv-loop μ-loop
-loop-again c =
-    let w = c .before .before .before .before .before .before .args .w .now in
-    let l = c .before .before .before .before .before .loop in (
-      omega arith,
-      omega arith,
-      sym (digit-more w (l .i) (l .x) (omega arith) (omega arith) (omega arith) (omega arith)) ∙ l .inv .2,
-    )
-
-returns-4 : tie.Need-returns-4 Inv-loop μ-loop
-returns-4 c =
-    let l = c .before .loop in
-    sym (digits-done (c .before .before .args .w .now) (l .i) (l .x) (omega arith)) ∙ l .inv .2
+loop-again c = (omega arith, omega arith, search digit-more)
 
 pub digits-spec : {M : Type 1} → statement M
 digits-spec =
@@ -59,11 +30,11 @@ digits-spec =
     μ-loop
     loop-holds
     (λ c. search needs)
-    returns
-    returns-2
+    (λ c. search digit-low)
+    (λ c. search digit-high)
     (λ c. search needs) (λ c. search needs) (λ c. search needs)
-    returns-3
+    (λ c. search digit-large)
     (λ c. search needs) (λ c. search needs)
     loop-again
     (λ c. search needs)
-    returns-4)
+    (λ c. search digits-done))
