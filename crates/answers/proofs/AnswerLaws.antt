@@ -7,14 +7,17 @@ use native.Mathlib.Nat.{pow-suc}
 use native.Mathlib.Omega.{arith}
 use borrow.Author.Tests.{lt-ltb, le-ltb}
 use lib.Dec.{ltb}
-use lib.ListN.{length, length-append}
-use Rattle.buffers.proofs.Parts.{placed, placed-append}
+use lib.ListN.{length, take, drop, length-append}
+use mir.Syntax.{w64}
+use mir.Val.{Fits}
+use borrow.Rule.Slice.PartMut.{putMid}
+use Rattle.buffers.proofs.Parts.{placed, placed-append, tail-back}
 use Rattle.buffers.proofs.Digits.{Digits, length-digits}
 use Rattle.masks.specs.Bytes.{front}
 use Rattle.model.specs.Rulings.{Outcome, value, refused}
 use Rattle.model.specs.Lines.{digitsOf, digitCount, decimal, answerLine, printed}
 use Rattle.answers.specs.Writing.{printedInto, filled}
-use Rattle.answers.proofs.WriteLaws.{into-room, filled-room}
+use Rattle.answers.proofs.WriteLaws.{into-room, filled-room, into-short, filled-short}
 
 -- ---- how many digits
 
@@ -71,7 +74,7 @@ unfolding answerLine decimal
 length-line x y n = simp (length-append, length-digits decimal-digits) (omega arith)
 
 -- a line's three parts, each after the one before it
-pub line-written : (x y n k : ℕ) (s s1 s2 s3 : List ℕ) → k ≡ digitCount 9 n → 3 + k < length s
+line-written : (x y n k : ℕ) (s s1 s2 s3 : List ℕ) → k ≡ digitCount 9 n → 3 + k < length s
     → s1 ≡ front (x ∷ y ∷ 32 ∷ []) s → s2 ≡ placed 3 (digitsOf k n) s1 → s3 ≡ placed (3 + k) (10 ∷ []) s2 → s3 ≡ front (answerLine (x ∷ y ∷ []) n) s
 unfolding answerLine decimal
 line-written x y n k s s1 s2 s3 e room e1 e2 e3 =
@@ -85,6 +88,37 @@ line-written x y n k s s1 s2 s3 e room e1 e2 e3 =
     ∙ ap (λ (j : ℕ). placed j (10 ∷ []) (placed 0 wds s)) (sym len)
     ∙ placed-append 0 wds (10 ∷ []) s (omega arith)
     ∙ ap (λ (j : ℕ). front (w ++ (digitsOf j n ++ (10 ∷ []))) s) e
+
+-- k digits, so the line ends at 3 + k: no room for it, or its parts lent and written one after the other
+module _ (x y n k : ℕ) (s : List ℕ) (e : k ≡ digitCount 9 n) where
+  pub end-fits : Fits w64 (3 + k)
+  end-fits = record { fits = omega (arith, count-high 9 n) }
+
+  module _ (h : length s ≤ 3 + k) where
+    short : length s < length (answerLine (x ∷ y ∷ []) n)
+    short = omega (arith, length-line x y n)
+
+    pub none-filled : 0 ≡ filled (answerLine (x ∷ y ∷ []) n) s
+    none-filled = sym (filled-short (answerLine (x ∷ y ∷ []) n) s short)
+
+    pub none-printed : s ≡ printedInto (answerLine (x ∷ y ∷ []) n) s
+    none-printed = sym (into-short (answerLine (x ∷ y ∷ []) n) s short)
+
+  module _ (h : 3 + k < length s) where
+    room : length (answerLine (x ∷ y ∷ []) n) ≤ length s
+    room = omega (arith, length-line x y n)
+
+    pub line-filled : 3 + k + 1 ≡ filled (answerLine (x ∷ y ∷ []) n) s
+    line-filled = omega (arith, length-line x y n, filled-room (answerLine (x ∷ y ∷ []) n) s room)
+
+    pub line-printed : (head digits end : List ℕ) → head ≡ front (x ∷ y ∷ 32 ∷ []) s
+        → digits ≡ front (digitsOf k n) (take (length head - 3) (drop 3 head))
+        → (let t = putMid 3 (length head - 3) head digits in
+        end ≡ front (10 ∷ []) (take (length t - (3 + k)) (drop (3 + k) t)) → putMid (3 + k) (length t - (3 + k)) t end ≡ printedInto (answerLine (x ∷ y ∷ []) n) s)
+    line-printed head digits end e1 e2 e3 =
+        let two = tail-back 3 (digitsOf k n) head digits e2 in
+        let three = tail-back (3 + k) (10 ∷ []) (putMid 3 (length head - 3) head digits) end e3 in
+        line-written x y n k s _ _ _ e h e1 two three ∙ sym (into-room (answerLine (x ∷ y ∷ []) n) s room)
 
 -- ---- what is printed has 5 to 14 bytes
 

@@ -5,7 +5,10 @@ use Rattle.answers.proofs.print.Statement.{statement}
 use Rattle.answers.proofs.print.Tie as tie
 
 returns-2 : tie.Need-returns-2
-returns-2 c = rw (c .before .before .before .before .before .before .answer2 .given .1) (rw (c .before .before .before .refusal-number .ensures) at (c .before .before .put-line2 .ensures))
+returns-2 c =
+    let p = c .before .before in
+    let n = p .before in
+    rw (n .before .before .before .answer2 .given .1) (rw (n .refusal-number .ensures) at (p .put-line2 .ensures))
 
 pub print-spec : {M : Type 1} → statement M
 print-spec =
@@ -13,6 +16,6 @@ print-spec =
     (tie.spec
     (λ c. search needs) (λ c κs. search needs) (λ c. search needs) (λ c κs. search needs) (λ c κs. search needs)
     (λ c. search needs)
-    (λ c. rw (c .before .before .before .before .before .answer .given .1) (c .before .before .put-line .ensures))
+    (λ c. let p = c .before .before in rw (p .before .before .before .answer .given .1) (p .put-line .ensures))
     (λ c. search needs)
     returns-2)
