@@ -25,33 +25,26 @@ digit-and a b k = rw (and-shr a b k) (omega (arith, and-step (a / 2 ^ k) (b / 2 
 digit-or : (a b k : ℕ) → bitOr a b / 2 ^ k % 2 ≡ max (a / 2 ^ k % 2) (b / 2 ^ k % 2)
 digit-or a b k = rw (or-shr a b k) (omega (arith, or-step (a / 2 ^ k) (b / 2 ^ k)))
 
-one-and : (d e : ℕ) → d < 2 → e < 2 → eqb (min d e) 1 ≡ (eqb d 1 && eqb e 1)
-one-and zero zero g h = refl
-one-and zero (suc zero) g h = refl
-one-and (suc zero) zero g h = refl
-one-and (suc zero) (suc zero) g h = refl
-one-and zero (suc (suc e)) g h = absurd (omega arith)
-one-and (suc zero) (suc (suc e)) g h = absurd (omega arith)
-one-and (suc (suc d)) e g h = absurd (omega arith)
-
-one-or : (d e : ℕ) → d < 2 → e < 2 → eqb (max d e) 1 ≡ (eqb d 1 || eqb e 1)
-one-or zero zero g h = refl
-one-or zero (suc zero) g h = refl
-one-or (suc zero) zero g h = refl
-one-or (suc zero) (suc zero) g h = refl
-one-or zero (suc (suc e)) g h = absurd (omega arith)
-one-or (suc zero) (suc (suc e)) g h = absurd (omega arith)
-one-or (suc (suc d)) e g h = absurd (omega arith)
+-- what is so of the four pairs of digits
+of-digits : (f : ℕ → ℕ → ℕ) (g : Bool → Bool → Bool) → eqb (f 0 0) 1 ≡ g false false → eqb (f 0 1) 1 ≡ g false true
+    → eqb (f 1 0) 1 ≡ g true false → eqb (f 1 1) 1 ≡ g true true → (d e : ℕ) → d < 2 → e < 2 → eqb (f d e) 1 ≡ g (eqb d 1) (eqb e 1)
+of-digits f g p q r s zero zero h l = p
+of-digits f g p q r s zero (suc zero) h l = q
+of-digits f g p q r s (suc zero) zero h l = r
+of-digits f g p q r s (suc zero) (suc zero) h l = s
+of-digits f g p q r s zero (suc (suc e)) h l = absurd (omega arith)
+of-digits f g p q r s (suc zero) (suc (suc e)) h l = absurd (omega arith)
+of-digits f g p q r s (suc (suc d)) e h l = absurd (omega arith)
 
 -- ---- the items of a mask made of two
 
 pub has-and : (a b k : ℕ) → has (bitAnd a b) k ≡ (has a k && has b k)
 unfolding has
-has-and a b k = ap (λ (x : ℕ). eqb x 1) (digit-and a b k) ∙ one-and _ _ (digit-lt a k) (digit-lt b k)
+has-and a b k = ap (λ (x : ℕ). eqb x 1) (digit-and a b k) ∙ of-digits min _&&_ refl refl refl refl _ _ (digit-lt a k) (digit-lt b k)
 
 pub has-or : (a b k : ℕ) → has (bitOr a b) k ≡ (has a k || has b k)
 unfolding has
-has-or a b k = ap (λ (x : ℕ). eqb x 1) (digit-or a b k) ∙ one-or _ _ (digit-lt a k) (digit-lt b k)
+has-or a b k = ap (λ (x : ℕ). eqb x 1) (digit-or a b k) ∙ of-digits max _||_ refl refl refl refl _ _ (digit-lt a k) (digit-lt b k)
 
 pub has-zero : (k : ℕ) → has 0 k ≡ false
 unfolding has
@@ -149,19 +142,9 @@ digit-xor a b k = rw (xor-shr a b k) (omega (arith, xor-step (a / 2 ^ k) (b / 2 
     small (suc zero) (suc e) g h = omega arith
     small (suc (suc d)) e g h = absurd (omega arith)
 
-one-xor : (d e : ℕ) → d < 2 → e < 2 → eqb (differ d e) 1 ≡ xor (eqb d 1) (eqb e 1)
-unfolding xor
-one-xor zero zero g h = refl
-one-xor zero (suc zero) g h = refl
-one-xor (suc zero) zero g h = refl
-one-xor (suc zero) (suc zero) g h = refl
-one-xor zero (suc (suc e)) g h = absurd (omega arith)
-one-xor (suc zero) (suc (suc e)) g h = absurd (omega arith)
-one-xor (suc (suc d)) e g h = absurd (omega arith)
-
 pub has-xor : (a b k : ℕ) → has (bitXor a b) k ≡ xor (has a k) (has b k)
-unfolding has
-has-xor a b k = ap (λ (x : ℕ). eqb x 1) (digit-xor a b k) ∙ one-xor _ _ (digit-lt a k) (digit-lt b k)
+unfolding has xor
+has-xor a b k = ap (λ (x : ℕ). eqb x 1) (digit-xor a b k) ∙ of-digits differ xor refl refl refl refl _ _ (digit-lt a k) (digit-lt b k)
 
 has-suc : (a k : ℕ) → has a (suc k) ≡ has (a / 2) k
 has-suc a k = sym (has-half a k ∙ ap (has a) (omega arith))
