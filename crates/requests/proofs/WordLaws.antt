@@ -1,14 +1,14 @@
 -- Laws of the request words.
 use mathlib.Core.Path.{_≡_, refl, sym, ap, _∙_}
 use mathlib.Core.Bool.{Bool, true, false, not}
-use mathlib.Core.List.{List}
+use mathlib.Core.List.{List, [], _∷_}
 use mathlib.Core.Option.{Option, none, some}
-use Prim.Native.Nat.{ℕ, _-_, _≤_}
+use Prim.Native.Nat.{ℕ, _+_, _-_, _≤_}
 use native.Mathlib.Omega.{arith}
 use borrow.Author.Tests.{not-true, not-false}
 use lib.Dec.{lit<}
 use lib.ListN.{length, take, drop}
-use lib.Seq.{getD-take}
+use lib.Seq.{getD-take, drop-drop}
 use Rattle.buffers.proofs.Parts.{tail}
 use Rattle.buffers.proofs.Comparing.{same-eq}
 use Rattle.masks.specs.Bytes.{bytes, sameBytes}
@@ -31,6 +31,28 @@ use Rattle.requests.specs.declared.words.Word.the-variants.{Numbers, Cre
 pub hit : (w : List ℕ) (q : Word) (b : Bool) (args : List (List ℕ)) (fs : List Form)
     → b ≡ sameBytes w (bytes (letters q)) → b ≡ true → byWord (bytes (letters q)) args fs ≡ asks q args → byWord w args fs ≡ asks q args
 hit w q b args fs e t h = rw (same-eq w (bytes (letters q)) (sym e ∙ t)) h
+
+-- one that the tests b1, b2, .. do not find spelt as the first forms is looked up in the others
+abbrev wordOf : List Form → List ℕ
+wordOf [] = []
+wordOf (f ∷ fs) = f .word
+
+module _ (w : List ℕ) (args : List (List ℕ)) (fs : List Form) (o : Option Call) where
+  miss : (n : ℕ) (b : Bool) → b ≡ sameBytes w (wordOf (drop n fs)) → b ≡ false → byWord w args (drop (n + 1) fs) ≡ o → byWord w args (drop n fs) ≡ o
+  miss n b e t h = first (drop n fs) e (rw (drop-drop 1 n fs) h)
+    where
+      first : (l : List Form) → b ≡ sameBytes w (wordOf l) → byWord w args (drop 1 l) ≡ o → byWord w args l ≡ o
+      first [] q r = r
+      first (f ∷ l) q r = rw (byWord, sym q ∙ t) r
+
+  module _ (b1 b2 b3 b4 b5 : Bool) (e1 : b1 ≡ sameBytes w (wordOf fs)) (t1 : b1 ≡ false) (e2 : b2 ≡ sameBytes w (wordOf (drop 1 fs))) (t2 : b2 ≡ false)
+      (e3 : b3 ≡ sameBytes w (wordOf (drop 2 fs))) (t3 : b3 ≡ false) (e4 : b4 ≡ sameBytes w (wordOf (drop 3 fs))) (t4 : b4 ≡ false)
+      (e5 : b5 ≡ sameBytes w (wordOf (drop 4 fs))) (t5 : b5 ≡ false) where
+    pub miss5 : byWord w args (drop 5 fs) ≡ o → byWord w args fs ≡ o
+    miss5 h = miss 0 b1 e1 t1 (miss 1 b2 e2 t2 (miss 2 b3 e3 t3 (miss 3 b4 e4 t4 (miss 4 b5 e5 t5 h))))
+
+    pub miss6 : (b6 : Bool) → b6 ≡ sameBytes w (wordOf (drop 5 fs)) → b6 ≡ false → byWord w args (drop 6 fs) ≡ o → byWord w args fs ≡ o
+    miss6 b6 e6 t6 h = miss5 (miss 5 b6 e6 t6 h)
 
 -- ---- what each word asks for
 
