@@ -95,14 +95,11 @@ module _ (x y n k : ℕ) (s : List ℕ) (e : k ≡ digitCount 9 n) where
   end-fits = record { fits = omega (arith, count-high 9 n) }
 
   module _ (h : length s ≤ 3 + k) where
-    short : length s < length (answerLine (x ∷ y ∷ []) n)
-    short = omega (arith, length-line x y n)
-
     pub none-filled : 0 ≡ filled (answerLine (x ∷ y ∷ []) n) s
-    none-filled = sym (filled-short (answerLine (x ∷ y ∷ []) n) s short)
+    none-filled = sym (filled-short (answerLine (x ∷ y ∷ []) n) s (omega (arith, length-line x y n)))
 
     pub none-printed : s ≡ printedInto (answerLine (x ∷ y ∷ []) n) s
-    none-printed = sym (into-short (answerLine (x ∷ y ∷ []) n) s short)
+    none-printed = sym (into-short (answerLine (x ∷ y ∷ []) n) s (omega (arith, length-line x y n)))
 
   module _ (h : 3 + k < length s) where
     room : length (answerLine (x ∷ y ∷ []) n) ≤ length s
