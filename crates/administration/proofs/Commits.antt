@@ -13,7 +13,7 @@ use Rattle.model.specs.Rulings.{role}
 use Rattle.model.specs.Administration.{enrolling, founding, granting, appointing, dismissing, ticking, puttingUser, enrolRuling, foundRuling, grantRuling, appointRuling, dismissRuling, clockRuling}
 use Rattle.model.specs.Calls.{enrol, found, grant, appoint, dismiss, clock, ruling, settled}
 use Rattle.slots.specs.Slots.{Places, look, lifted, withClockSlot, withUserSlot}
-use Rattle.slots.proofs.CheckLaws.{in-range}
+use Rattle.origins.proofs.Laws.{in-range}
 use Rattle.slots.proofs.SlotLaws.{put-clock, put-user, ranged-commit, role-commit}
 use Rattle.administration.specs.Administration.{enrolDecision, foundDecision, grantDecision, appointDecision, dismissDecision, clockDecision}
 

@@ -20,7 +20,6 @@ use Rattle.model.specs.Lists.{Event, call, calls, perform, run, answers}
 use Rattle.model.proofs.Settling.{step-settled, broken}
 use Rattle.model.proofs.Rules.{kept→, kept←}
 use Rattle.model.proofs.Running.{step-keeps}
-use Rattle.slots.proofs.TermLaws.{Column}
 use Rattle.batch.specs.declared.Item.{Item}
 use Rattle.batch.specs.declared.Told.{Told}
 use Rattle.batch.specs.Batch.{itemCall, callsOf, toldOutcome, outcomesOf, paddedAnswers}
@@ -101,45 +100,38 @@ module _ (r : Register) (c : Call) (z : Effect Register) (k : T (wellFormed r)) 
 
 -- ---- a loop over the items
 
--- after i of n requests: the register keeps the rules, the column is in step with it, and what is still to be done gives the whole
-pub record Playing (start : Register) (items : List Item) (n : ℕ) (r : Register) (permissions : List ℕ) (told : List Told) (i : ℕ) : Type 0 where
+-- after i of n requests: the register keeps the rules, and what is still to be done gives the whole
+pub record Playing (start : Register) (items : List Item) (n : ℕ) (r : Register) (told : List Told) (i : ℕ) : Type 0 where
   pub within : n ≤ 64
   pub amount : length items ≡ 64
   pub formed : T (wellFormed r)
-  pub column : Column permissions (r .roles)
-  pub columns : length permissions ≡ 32
   pub room : length told ≡ 64
   pub register : run r (rest i n items) ≡ run start (callsOf n items)
   pub outcomes : filled i n (answers r (rest i n items)) told ≡ paddedAnswers start n items
 
 module _ (start : Register) (items : List Item) (n : ℕ) where
-  pub playing-start : (permissions : List ℕ) (told : List Told) → n ≤ 64 → length items ≡ 64 → T (wellFormed start)
-      → Column permissions (start .roles) → length permissions ≡ 32 → length told ≡ 64 → outcomesOf told ≡ replicate 64 (value 0)
-      → Playing start items n start permissions told 0
-  playing-start permissions told within amount k column columns room e =
+  pub playing-start : (told : List Told) → n ≤ 64 → length items ≡ 64 → T (wellFormed start) → length told ≡ 64 → outcomesOf told ≡ replicate 64 (value 0)
+      → Playing start items n start told 0
+  playing-start told within amount k room e =
       record {
         within = within;
         amount = amount;
         formed = k;
-        column = column;
-        columns = columns;
         room = room;
         register = refl;
         outcomes = filled-none n (answers start (callsOf n items)) told e;
       }
 
-  module _ (r : Register) (permissions : List ℕ) (told : List Told) (i : ℕ) (p : Playing start items n r permissions told i) where
-    pub playing-more : (z : Effect Register) (next : List ℕ) (t : Told) → i < n → z ≡ settled r (itemCall (getD items i noItem)) → toldOutcome t ≡ z .answer
-        → Column next (z .after .roles) → length next ≡ 32 → Playing start items n (z .after) next (set told i t) (i + 1)
-    playing-more z next t b e o column columns =
+  module _ (r : Register) (told : List Told) (i : ℕ) (p : Playing start items n r told i) where
+    pub playing-more : (z : Effect Register) (t : Told) → i < n → z ≡ settled r (itemCall (getD items i noItem)) → toldOutcome t ≡ z .answer
+        → Playing start items n (z .after) (set told i t) (i + 1)
+    playing-more z t b e o =
         let c = itemCall (getD items i noItem) in
         let more = rest-more items i n b (omega arith) in
         record {
           within = p .within;
           amount = p .amount;
           formed = still-formed r c z (p .formed) e;
-          column = column;
-          columns = columns;
           room = length-set told i t ∙ p .room;
           register = sym (run-more r c z (p .formed) e (rest (i + 1) n items)) ∙ ap (run r) (sym more) ∙ p .register;
           outcomes =
@@ -203,10 +195,10 @@ module _ (start : Register) (items : List Item) (n : ℕ) (amount : length items
       )
 
   -- a count above 64 stands for all
-  pub counted : (count : ℕ) (r : Register) (told : List Told) → n ≡ min 64 count
+  pub items-counted : (count : ℕ) (r : Register) (told : List Told) → n ≡ min 64 count
       → (r ≡ run start (callsOf n items)) × (outcomesOf told ≡ paddedAnswers start n items)
       → (r ≡ run start (callsOf count items)) × (outcomesOf told ≡ paddedAnswers start count items)
-  counted count r told e h =
+  items-counted count r told e h =
       let below : n ≤ count = omega arith in
       let same : callsOf n items ≡ callsOf count items = ap (λ (x : List Item). calls (map itemCall x)) (taken (eq-or-lt-of-le below)) in
       let over : 64 - n ≡ 64 - count = omega arith in

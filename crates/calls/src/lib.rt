@@ -59,7 +59,7 @@ pub fn clock(r: Register, tick: u32) -> Reply
 }
 
 pub fn create(r: Register, user: u32, origin: Named, at: Context, plan: Plan) -> Reply
-    ensures { λ q. ⌜ effectOf q ≡ step r (createCall user (namedOrigin origin) (at .hour) (at .place) (at .device) (plan .first) (plan .last) (plan .uses) (plan .creations) (plan .hops) (plan .hours) (plan .places) (plan .devices)) ⌝ }
+    ensures { λ q. ⌜ effectOf q ≡ step r (createCall user (namedOrigin origin) at plan) ⌝ }
 {
     apply(
         r,
@@ -95,7 +95,7 @@ pub fn hand(r: Register, user: u32, receiver: u32, capability: u32) -> Reply
 }
 
 pub fn open(r: Register, session: u32, user: u32, on: Named, at: Context) -> Reply
-    ensures { λ q. ⌜ effectOf q ≡ step r (openCall session user (namedOrigin on) (at .hour) (at .place) (at .device)) ⌝ }
+    ensures { λ q. ⌜ effectOf q ≡ step r (openCall session user (namedOrigin on) at) ⌝ }
 {
     apply(r, Request::Local(LocalRequest::Open(session, user, on, at)))
 }

@@ -11,35 +11,35 @@ use Rattle.model.specs.declared.Origin.{Origin}
 use Rattle.model.specs.declared.Named.{Named}
 use Rattle.model.specs.declared.Context.{Context}
 use Rattle.model.specs.declared.Plan.{Plan}
-use Rattle.model.specs.State.{Terms}
+use Rattle.model.specs.State.{newCapability, Terms}
+use Rattle.model.specs.Delegation.{createRanges}
 use Rattle.model.specs.Requests.{namedOrigin}
+use Rattle.origins.specs.Numbers.{namedIn}
+use Rattle.origins.proofs.Laws.{in-range, named-exact}
 use Rattle.slots.specs.declared.Slots.{Slots}
-use Rattle.slots.specs.Checks.{firstNumber}
-use Rattle.parties.specs.Terms.{partyIn}
-use Rattle.slots.specs.Terms.{originTerms, namedIn}
-use Rattle.slots.proofs.CheckLaws.{in-range, ranged-same}
-use Rattle.slots.proofs.TermLaws.{named-exact}
-use Rattle.creation.specs.Creation.{plannedRanges, planned, madeOf, creatingFrom, creatingOn}
+use Rattle.slots.specs.Guards.{firstNumber}
+use Rattle.slots.specs.Terms.{originTerms}
+use Rattle.slots.proofs.GuardLaws.{ranged-same}
+use Rattle.creation.specs.Creation.{madeOf, creatingFrom, creatingOn}
 
 pub or-false : (a : Bool) → (a || false) ≡ a
 or-false true = refl
 or-false false = refl
 
 -- the guards with the origin as it is named, and the terms as they are read
-pub create-agrees : (v : Slots) (permissions : List ℕ) (user : ℕ) (origin : Named) (at : Context) (plan : Plan) {k : ℕ} {t : Terms} {o : Origin}
-    → k ≡ firstNumber ((creatingFrom (v .clock) (v .enrolled) (v .count) (partyIn o (v .role) (v .parent)) t user origin at plan) .guards)
-    → t ≡ originTerms v permissions o → o ≡ namedIn origin
-    → k ≡ firstNumber ((creatingOn v permissions (namedOrigin origin) user origin at plan) .guards)
-create-agrees v permissions user origin at plan {k} {t} {o} e q m =
-    let ts : List Bool = plannedRanges user origin at plan in
+pub create-agrees : (v : Slots) (column : List ℕ) (user : ℕ) (origin : Named) (at : Context) (plan : Plan) {k : ℕ} {t : Terms} {o : Origin}
+    → k ≡ firstNumber ((creatingFrom v o t user origin at plan) .guards) → t ≡ originTerms v column o → o ≡ namedIn origin
+    → k ≡ firstNumber ((creatingOn v column (namedOrigin origin) user origin at plan) .guards)
+create-agrees v column user origin at plan {k} {t} {o} e q m =
+    let ts : List Bool = createRanges user (namedOrigin origin) at plan in
     e
-    ∙ ap (λ (y : Terms). firstNumber ((creatingFrom (v .clock) (v .enrolled) (v .count) (partyIn o (v .role) (v .parent)) y user origin at plan) .guards)) q
-    ∙ ranged-same 2 ts _ _ (λ h. ap (λ (x : Origin). drop 1 ((creatingOn v permissions x user origin at plan) .guards)) (m ∙ named-exact origin (each-at ts h 1)))
+    ∙ ap (λ (y : Terms). firstNumber ((creatingFrom v o y user origin at plan) .guards)) q
+    ∙ ranged-same 2 ts _ _ (λ h. ap (λ (x : Origin). drop 1 ((creatingOn v column x user origin at plan) .guards)) (m ∙ named-exact origin (each-at ts h 1)))
 
 -- the new capability has the numbers of the request
-pub made-exact : (user : ℕ) (o : Named) (at : Context) (plan : Plan) → T (each (plannedRanges user o at plan)) → madeOf user o plan ≡ planned user (namedOrigin o) plan
+pub made-exact : (user : ℕ) (o : Named) (at : Context) (plan : Plan) → T (each (createRanges user (namedOrigin o) at plan)) → madeOf user o plan ≡ newCapability user (namedOrigin o) plan
 made-exact user o at plan h =
-    let ts = plannedRanges user o at plan in
+    let ts = createRanges user (namedOrigin o) at plan in
     rw (
       in-range user 64 (each-at ts h 0),
       named-exact o (each-at ts h 1),

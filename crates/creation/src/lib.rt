@@ -1,66 +1,46 @@
 // Creation: create, decided over the elements that it names.
 ghost use mathlib.Core.Path.{_≡_};
+ghost use Prim.Native.Nat.{ℕ};
 ghost use lib.Dec.{leb};
 ghost use Rattle.masks.specs.Masks.{within};
 ghost use Rattle.masks.specs.Tests.{each};
-ghost use Prim.Native.Nat.{ℕ};
 ghost use Rattle.model.specs.declared.Origin.{Origin as OriginHeld};
-ghost use Rattle.model.specs.State.{Party, claims, below};
+ghost use Rattle.model.specs.State.{newCapability, claims, below};
+ghost use Rattle.model.specs.Delegation.{createRanges};
 ghost use Rattle.model.specs.Requests.{namedOrigin};
-ghost use Rattle.slots.specs.Checks.{checked, firstNumber};
+ghost use Rattle.origins.specs.Terms.{termsIn};
+ghost use Rattle.slots.specs.Guards.{guarded, firstNumber};
 ghost use Rattle.slots.specs.Slots.{ruledOf};
-ghost use Rattle.parties.specs.Terms.{partyIn, termsIn};
-ghost use Rattle.creation.specs.Creation.{standingOf, planned, madeOf, plannedRanges, creatingFrom, createDecision};
+ghost use Rattle.creation.specs.Creation.{madeOf, creatingFrom, createDecision};
 use masks::contained;
 use masks::member;
-use model::Answer;
 use model::Capability;
 use model::Context;
 use model::Named;
 use model::Origin;
 use model::Plan;
 use model::Refusal;
-use parties::Allowance;
-use parties::present_in;
+use origins::numbers::named_range;
+use origins::numbers::origin_named;
+use origins::standing::alive_in;
+use origins::standing::creates_in;
+use origins::standing::member_in;
+use origins::standing::present_in;
+use origins::terms::Allowance;
+use origins::terms::admits;
+use origins::terms::in_context;
 use slots::Decision;
 use slots::Slots;
-use slots::checks::Check;
-use slots::checks::first;
-use slots::checks::raised;
-use slots::origins::admits;
-use slots::origins::alive_in;
-use slots::origins::counted_in;
-use slots::origins::creates_in;
-use slots::origins::in_context;
-use slots::origins::member_in;
-use slots::origins::named_range;
+use slots::counting::created_in;
+use slots::guards::Guarded;
+use slots::guards::first;
+use slots::guards::raised;
+use slots::settle;
 use slots::terms::origin_allows;
-use slots::terms::origin_named;
-
-// How the origin stands: it is there, the user is appointed or a holder, the clock is in its life, it may create once more.
-pub struct Standing {
-    pub there: bool,
-    pub member: bool,
-    pub alive: bool,
-    pub may: bool,
-}
-
-pub fn standing_of(v: Slots, user: u32, o: Origin) -> Standing
-    ensures { λ q. ⌜ q ≡ standingOf (v .clock) (v .count) user (partyIn o (v .role) (v .parent)) ⌝ }
-{
-    let c = v.parent;
-    let x = v.role;
-    Standing {
-        there: present_in(o, x, v.count),
-        member: member_in(o, x, c, user),
-        alive: alive_in(o, c, v.clock),
-        may: creates_in(o, c),
-    }
-}
 
 // The numbers of a request are in their ranges; the first tick is at most the last.
 pub fn in_ranges(user: u32, origin: Named, at: Context, plan: Plan) -> bool
-    ensures { λ q. ⌜ q ≡ each (plannedRanges user origin at plan) ⌝ }
+    ensures { λ q. ⌜ q ≡ each (createRanges user (namedOrigin origin) at plan) ⌝ }
 {
     let named = named_range(origin);
     let context = in_context(at);
@@ -91,7 +71,7 @@ pub fn contained16(m: u32, mask: u16) -> bool
 
 // Masks, life and limits of the plan lie within what the origin allows.
 pub fn plan_below(plan: Plan, a: Allowance) -> bool
-    ensures { λ q. ⌜ ((user : ℕ) (o : OriginHeld) → q ≡ below (claims (planned user o plan)) (termsIn a)) ⌝ }
+    ensures { λ q. ⌜ ((user : ℕ) (o : OriginHeld) → q ≡ below (claims (newCapability user o plan)) (termsIn a)) ⌝ }
 {
     let hours = contained(plan.hours, a.hours);
     let places = contained16(plan.places, a.places);
@@ -136,66 +116,59 @@ pub fn made(user: u32, origin: Named, plan: Plan) -> Capability
     }
 }
 
-// The tests of create, from the last to the first.
-pub fn create_check(
-    enrolled: u64,
-    count: u16,
-    s: Standing,
+// The tests of create, from the last to the first: the origin o is read from its slot and allows a.
+pub fn create_guards(
+    v: Slots,
+    o: Origin,
     a: Allowance,
     user: u32,
     origin: Named,
     at: Context,
     plan: Plan,
-) -> Check
-    ensures { λ q. ⌜ ((clock : ℕ) (y : Party) → s ≡ standingOf clock count user y → checked q ≡ firstNumber ((creatingFrom clock enrolled count y (termsIn a) user origin at plan) .guards)) ⌝ }
+) -> Guarded
+    ensures { λ q. ⌜ guarded q ≡ firstNumber ((creatingFrom v o (termsIn a) user origin at plan) .guards) ⌝ }
 {
-    let maker = member(enrolled, user);
+    let c = v.parent;
+    let x = v.role;
+    let maker = member(v.enrolled, user);
+    let present = present_in(o, x, v.count);
+    let entitled = member_in(o, x, c, user);
+    let alive = alive_in(o, c, v.clock);
+    let creates = creates_in(o, c);
     let grants = member(a.grants as u64, 0);
     let ranged = in_ranges(user, origin, at, plan);
-    let context = admits(a, at);
+    let admitted = admits(a, at);
     let fits = plan_below(plan, a);
-    let k = first(!(count < 256), Refusal::Full, Check::Pass);
+    let k = first(!(v.count < 256), Refusal::Full, Guarded::Pass);
     let k = first(!fits, Refusal::Exceeds, k);
-    let k = first(!s.may, Refusal::Exhausted, k);
-    let k = first(!context, Refusal::Context, k);
-    let k = first(!s.alive, Refusal::Expired, k);
+    let k = first(!creates, Refusal::Exhausted, k);
+    let k = first(!admitted, Refusal::Context, k);
+    let k = first(!alive, Refusal::Expired, k);
     let k = first(a.revoked, Refusal::Revoked, k);
-    let k = first(!(s.member & grants), Refusal::Forbidden, k);
-    let k = first(!(maker & s.there), Refusal::Missing, k);
+    let k = first(!(entitled & grants), Refusal::Forbidden, k);
+    let k = first(!(maker & present), Refusal::Missing, k);
     first(!ranged, Refusal::Range, k)
 }
 
 // The slot `role` or `parent` is the origin, the slot `capability` the place of the new capability.
 pub fn decide_create(
     v: Slots,
-    permissions: &[u32; 32],
+    authorities: &[u32; 32],
     user: u32,
     origin: Named,
     at: Context,
     plan: Plan,
 ) -> Decision
-    ensures { λ q. ⌜ ruledOf q ≡ createDecision v (now (permissions .entry)) user origin at plan ⌝ }
+    ensures { λ q. ⌜ ruledOf q ≡ createDecision v (now (authorities .entry)) user origin at plan ⌝ }
 {
     let o = origin_named(origin);
-    let a = origin_allows(v, permissions, o);
-    let s = standing_of(v, user, o);
-    let k = create_check(v.enrolled, v.count, s, a, user, origin, at, plan);
-    match k {
-        Check::Refuse(why) => Decision {
-            answer: Answer::Refused(why),
-            slots: v,
-        },
-        Check::Pass => {
-            let p = counted_in(o, v.parent);
-            let c = made(user, origin, plan);
-            let mut w = v;
-            w.count = raised(v.count, 256);
-            w.parent = p;
-            w.capability = c;
-            Decision {
-                answer: Answer::Value(v.count as u32),
-                slots: w,
-            }
-        }
-    }
+    let a = origin_allows(v, authorities, o);
+    let k = create_guards(v, o, a, user, origin, at, plan);
+    let p = created_in(o, v.parent);
+    let c = made(user, origin, plan);
+    let mut w = v;
+    w.count = raised(v.count, 256);
+    w.parent = p;
+    w.capability = c;
+    settle(v, k, v.count as u32, w)
 }

@@ -18,9 +18,10 @@ use Rattle.slots.specs.declared.Slots.{Slots}
 use Rattle.slots.specs.declared.Decision.{Decision}
 use Rattle.slots.specs.Slots.{Places, look, ruledOf, lifted}
 use Rattle.slots.specs.Terms.{OriginPlaced, OnPlaced}
-use Rattle.slots.proofs.TermLaws.{Column}
+use Rattle.origins.specs.Numbers.{roleHeld, capabilityHeld}
+use Rattle.origins.proofs.Laws.{Column}
 use Rattle.places.specs.declared.Names.{Names}
-use Rattle.places.specs.Requests.{namesOf, placesIn, capabilityPlace, rolePlace, parentPlace, roleHeld, capabilityHeld, roleIn, capabilityIn}
+use Rattle.places.specs.Requests.{namesOf, placesIn, capabilityPlace, rolePlace, parentPlace, roleIn, capabilityIn}
 use Rattle.administration.proofs.Commits.{enrol-commit, found-commit, grant-commit, appoint-commit, dismiss-commit, clock-commit}
 use Rattle.creation.proofs.Commits.{create-commit}
 use Rattle.giving.proofs.Commits.{hand-commit, allow-commit, lend-commit}

@@ -4,7 +4,7 @@ ghost use lib.Dec.{T};
 ghost use Rattle.model.specs.Rules.{wellFormed};
 ghost use Rattle.model.specs.Calls.{settled};
 ghost use Rattle.slots.specs.Slots.{ruledOf};
-ghost use Rattle.revocation.specs.Orders.{orderEffect};
+ghost use Rattle.tree.specs.Orders.{orderEffect};
 ghost use Rattle.model.specs.Requests.{treeCall};
 ghost use Rattle.dispatch.specs.Decide.{decideOf};
 use administration::decide_appoint;
@@ -20,20 +20,20 @@ use giving::decide_lend;
 use model::LocalRequest;
 use model::Register;
 use model::TreeRequest;
-use revocation::amending::amend_order;
-use revocation::comparing::same_order;
-use revocation::orders::Order;
-use revocation::revoking::revoke_order;
-use revocation::withdrawing::withdraw_order;
 use sessions::decide_check;
 use sessions::decide_close;
 use sessions::decide_open;
 use slots::Decision;
 use slots::Slots;
+use tree::amending::amend_order;
+use tree::comparing::same_order;
+use tree::orders::Order;
+use tree::revoking::revoke_order;
+use tree::withdrawing::withdraw_order;
 
 // A request that changes only elements that it names.
-pub fn decide(v: Slots, permissions: &[u32; 32], q: LocalRequest) -> Decision
-    ensures { λ z. ⌜ ruledOf z ≡ decideOf v (now (permissions .entry)) q ⌝ }
+pub fn decide(v: Slots, authorities: &[u32; 32], q: LocalRequest) -> Decision
+    ensures { λ z. ⌜ ruledOf z ≡ decideOf v (now (authorities .entry)) q ⌝ }
 {
     match q {
         LocalRequest::Enrol(user, domain) => decide_enrol(v, user, domain),
@@ -51,19 +51,19 @@ pub fn decide(v: Slots, permissions: &[u32; 32], q: LocalRequest) -> Decision
         LocalRequest::Clock(tick) => decide_clock(v, tick),
         LocalRequest::Create(user, origin, at, plan) => decide_create(
             v,
-            permissions,
+            authorities,
             user,
             origin,
             at,
             plan,
         ),
-        LocalRequest::Allow(user, number, mask) => decide_allow(v, permissions, user, number, mask),
-        LocalRequest::Lend(user, number, mask) => decide_lend(v, permissions, user, number, mask),
+        LocalRequest::Allow(user, number, mask) => decide_allow(v, authorities, user, number, mask),
+        LocalRequest::Lend(user, number, mask) => decide_lend(v, authorities, user, number, mask),
         LocalRequest::Hand(user, receiver, number) => decide_hand(v, user, receiver, number),
         LocalRequest::Open(session, user, on, at) => decide_open(v, session, user, on, at),
         LocalRequest::Check(session, permission) => decide_check(
             v,
-            permissions,
+            authorities,
             session,
             permission,
         ),

@@ -5,17 +5,11 @@ use Prim.Native.Nat.{ℕ, _%_, _^_}
 use lib.Dec.{eqb, leb, ltb}
 use Rattle.masks.specs.Masks.{has, within}
 use Rattle.masks.specs.Tests.{each}
-use Rattle.model.specs.declared.Origin.{Origin}
-use Rattle.model.specs.declared.Origin.the-variants.{Role as ofRole, Capability as ofCapability}
 use Rattle.model.specs.declared.Role.{Role}
 use Rattle.model.specs.declared.Capability.{Capability}
 use Rattle.model.specs.declared.Session.{Session}
-use Rattle.model.specs.State.{Terms, claims, below, admitted, inContext}
+use Rattle.model.specs.State.{Terms, openedIn, claims, below, admitted, inContext}
 use Rattle.model.specs.Rules.{isUser, isOrigin, isDomain, bits, roleBlank, capabilityBlank, inRange, earlier, ownKeeps, sessionBlank}
-
-abbrev pub numberOf : Origin → ℕ
-numberOf (ofRole k) = k
-numberOf (ofCapability k) = k
 
 -- the rules of a founded role x; peers are the users of its domain
 abbrev pub roleWith : ℕ → ℕ → Role → List Bool
@@ -56,10 +50,10 @@ abbrev pub sessionWith : ℕ → Bool → Terms → Session → List Bool
 sessionWith enrolled there t s =
     isUser (s .user)
     ∷ isOrigin (s .on)
-    ∷ inContext (s .hour) (s .place) (s .device)
+    ∷ inContext (openedIn s)
     ∷ has enrolled (s .user)
     ∷ there
-    ∷ admitted t (s .hour) (s .place) (s .device)
+    ∷ admitted t (openedIn s)
     ∷ []
 
 unfoldable pub sessionKeepsWith : ℕ → Bool → Terms → Session → Bool

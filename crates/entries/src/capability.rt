@@ -2,15 +2,15 @@
 ghost use mathlib.Core.Path.{_≡_};
 ghost use Rattle.masks.specs.Tests.{each};
 ghost use Rattle.model.specs.Rules.{capabilityBlank, inRange, ownKeeps};
-ghost use Rattle.parties.specs.Terms.{termsIn};
+ghost use Rattle.origins.specs.Terms.{termsIn};
 ghost use Rattle.entries.specs.Limits.{capabilityWith, placeWith};
-use crate::bits::has64;
 use crate::limits::is_below;
 use crate::limits::is_earlier;
 use crate::limits::is_origin;
 use crate::limits::is_role_zero;
+use masks::member;
 use model::Capability;
-use parties::Allowance;
+use origins::terms::Allowance;
 
 // What is kept for a capability not there is 0.
 fn is_blank(c: Capability) -> bool
@@ -48,7 +48,7 @@ fn is_ranged(c: Capability) -> bool
 fn keeps_own(enrolled: u64, c: Capability) -> bool
     ensures { λ q. ⌜ q ≡ ownKeeps enrolled c ⌝ }
 {
-    has64(enrolled, c.creator)
+    member(enrolled, c.creator as u32)
         & (c.holders & enrolled == c.holders)
         & (c.first <= c.last)
         & (c.hops as u32 == u64::count_ones(c.holders))

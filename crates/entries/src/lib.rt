@@ -1,5 +1,4 @@
 // The rules of one user, role, capability or session, by itself and against what its origin allows.
-pub mod bits;
 pub mod capability;
 pub mod limits;
 pub mod roles;

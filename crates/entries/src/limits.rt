@@ -1,22 +1,11 @@
-// Origins, and what is asked of the capabilities created from one and of the sessions on it.
+// Origins, and what is asked of the capabilities created from one.
 ghost use mathlib.Core.Path.{_≡_};
-ghost use Rattle.model.specs.State.{claims, below, admitted};
+ghost use Rattle.model.specs.State.{claims, below};
 ghost use Rattle.model.specs.Rules.{isOrigin, isRoleZero, earlier};
-ghost use Rattle.parties.specs.Terms.{termsIn};
-ghost use Rattle.entries.specs.Limits.{numberOf};
-use crate::bits::has32;
+ghost use Rattle.origins.specs.Terms.{termsIn};
 use model::Capability;
 use model::Origin;
-use parties::Allowance;
-
-pub fn number_of(o: Origin) -> u8
-    ensures { λ q. ⌜ q ≡ numberOf o ⌝ }
-{
-    match o {
-        Origin::Role(k) => k,
-        Origin::Capability(k) => k,
-    }
-}
+use origins::terms::Allowance;
 
 pub fn is_origin(o: Origin) -> bool
     ensures { λ q. ⌜ q ≡ isOrigin o ⌝ }
@@ -61,14 +50,4 @@ pub fn is_below(c: Capability, u: Allowance) -> bool
         & (c.creation_limit <= u.creation_limit)
         & (c.hop_limit <= u.hop_limit)
         & (!u.revoked | c.revoked)
-}
-
-// The context is admitted.
-pub fn admits(u: Allowance, hour: u8, place: u8, device: u8) -> bool
-    ensures { λ q. ⌜ q ≡ admitted (termsIn u) hour place device ⌝ }
-{
-    let a = has32(u.hours, hour);
-    let b = has32(u.places as u32, place);
-    let c = has32(u.devices as u32, device);
-    a & b & c
 }

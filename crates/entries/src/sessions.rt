@@ -2,14 +2,16 @@
 ghost use mathlib.Core.Path.{_≡_};
 ghost use Rattle.masks.specs.Tests.{each};
 ghost use Rattle.model.specs.Rules.{sessionBlank};
-ghost use Rattle.parties.specs.Terms.{termsIn};
+ghost use Rattle.origins.specs.Terms.{termsIn};
 ghost use Rattle.entries.specs.Limits.{sessionWith, sessionKeepsWith};
-use crate::bits::has64;
-use crate::limits::admits;
 use crate::limits::is_origin;
 use crate::limits::is_role_zero;
+use masks::member;
+use model::Context;
 use model::Session;
-use parties::Allowance;
+use origins::terms::Allowance;
+use origins::terms::admits;
+use origins::terms::in_context;
 
 // What is kept for a session not open is 0.
 fn is_blank(s: Session) -> bool
@@ -26,14 +28,15 @@ fn keeps_all(enrolled: u64, there: bool, u: Allowance, s: Session) -> bool
 {
     let o = s.on;
     let ranged = is_origin(o);
-    let known = has64(enrolled, s.user);
-    let admitted = admits(u, s.hour, s.place, s.device);
-    (s.user < 64)
-        & ranged
-        & ((s.hour < 24) & (s.place < 16) & (s.device < 16))
-        & known
-        & there
-        & admitted
+    let at = Context {
+        hour: s.hour as u32,
+        place: s.place as u32,
+        device: s.device as u32,
+    };
+    let timely = in_context(at);
+    let known = member(enrolled, s.user as u32);
+    let admitted = admits(u, at);
+    (s.user < 64) & ranged & timely & known & there & admitted
 }
 
 pub fn session_keeps(enrolled: u64, there: bool, u: Allowance, s: Session) -> bool

@@ -7,31 +7,19 @@ ghost use lib.ListN.{length};
 ghost use Rattle.masks.specs.Bytes.{bytesOf, front, split};
 ghost use Rattle.model.specs.Rules.{wellFormed};
 ghost use Rattle.model.specs.Image.{encode};
-ghost use Rattle.model.specs.Requests.{refusalNumber, callOf, localCall, parsedCall};
+ghost use Rattle.model.specs.Requests.{refusalNumber, callOf, parsedCall};
 ghost use Rattle.model.specs.Entry.{fitted, soleLine, entry, returned, bufferAfter};
 ghost use Rattle.fellunqa.specs.Perform.{performed};
 use apply::apply_trusted;
-use apply::one::Indices;
-use apply::one::put_back;
-use dispatch::decide;
 use image::read_checked;
 use image::save_trusted;
 use model::Answer;
-use model::LocalRequest;
 use model::Parsed;
 use model::Refusal;
 use model::Register;
 use model::Request;
 use model::refusal_number;
-use places::capability_at;
-use places::names_of;
-use places::parent_at;
-use places::role_at;
-use places::seen;
-use places::session_at;
-use places::user_at;
 use requests::parse;
-use sweeps::permissions_of;
 use text::parts::count_before;
 
 // "one line with its line feed (any other bytes get 1)"
@@ -80,46 +68,8 @@ fn deliver(buffer: &mut [u8], r: Register, v: u32) -> i64
     v as i64
 }
 
-// The call of a request that changes only elements that it names. They are read here, since `view` and a reply by value would copy
-// the register four times more.
-fn answer_one(area: &mut [u8], r: Register, q: LocalRequest) -> i64
-    requires { ⌜ T (wellFormed r) ⌝ }
-    ensures { λ z. ⌜ (z ≡ returned (performed (length (now (area .entry))) r (localCall q))) × (now (area .exit) ≡ bufferAfter (performed (length (now (area .entry))) r (localCall q)) (now (area .entry))) ⌝ }
-{
-    let m = names_of(q);
-    let roles = r.roles;
-    let permissions = permissions_of(roles);
-    let un = user_at(m);
-    let sn = session_at(m);
-    let s = r.sessions[sn];
-    let cn = capability_at(m, s, r.count);
-    let c = r.capabilities[cn];
-    let rn = role_at(m, s, c);
-    let pn = parent_at(m, c);
-    let x = r.roles[rn];
-    let p = r.capabilities[pn];
-    let v = seen(r.clock, r.enrolled, r.count, r.domains[un], x, p, c, s);
-    let d = decide(v, &permissions, q);
-    let answer = d.answer;
-    match answer {
-        Answer::Value(n) => {
-            let w = d.slots;
-            let at = Indices {
-                user: un,
-                role: rn,
-                parent: pn,
-                capability: cn,
-                session: sn,
-            };
-            let next = put_back(r, at, w);
-            deliver(area, next, n)
-        }
-        Answer::Refused(why) => refused(why),
-    }
-}
-
-// The call of any request.
-fn answer_any(area: &mut [u8], r: Register, q: Request) -> i64
+// The call of a request, by value.
+fn perform(area: &mut [u8], r: Register, q: Request) -> i64
     requires { ⌜ T (wellFormed r) ⌝ }
     ensures { λ z. ⌜ (z ≡ returned (performed (length (now (area .entry))) r (callOf q))) × (now (area .exit) ≡ bufferAfter (performed (length (now (area .entry))) r (callOf q)) (now (area .entry))) ⌝ }
 {
@@ -149,9 +99,5 @@ pub extern "C" fn fellunqa_apply(image: &[u8], line: &[u8], area: &mut [u8]) -> 
     let Parsed::Line(request) = parsed else {
         return -1;
     };
-    if let Request::Local(q) = request {
-        answer_one(area, read.register, q)
-    } else {
-        answer_any(area, read.register, request)
-    }
+    perform(area, read.register, request)
 }

@@ -16,7 +16,7 @@ and-sure true true h = refl
 and-sure false true h = refl
 and-sure a false h = absurd h
 
-pub give-agrees : (v : Slots) (permissions : List ℕ) (given : Terms → ℕ) (had user n mask : ℕ) (d : Capability) {q : Effect Slots} {t : Terms} → t ≡ originTerms v permissions (v .capability .origin)
-    → q ≡ giveDecision v permissions (given t) had user n mask d
-    → q ≡ giveDecision v permissions (given (originTerms v permissions (v .capability .origin))) had user n mask d
-give-agrees v permissions given had user n mask d p e = e ∙ ap (λ (x : Terms). giveDecision v permissions (given x) had user n mask d) p
+pub give-agrees : (v : Slots) (column : List ℕ) (given : Terms → ℕ) (had user n mask : ℕ) (d : Capability) {q : Effect Slots} {t : Terms} → t ≡ originTerms v column (v .capability .origin)
+    → q ≡ giveDecision v column (given t) had user n mask d
+    → q ≡ giveDecision v column (given (originTerms v column (v .capability .origin))) had user n mask d
+give-agrees v column given had user n mask d p e = e ∙ ap (λ (x : Terms). giveDecision v column (given x) had user n mask d) p

@@ -9,6 +9,7 @@ use native.Mathlib.Omega.{arith}
 use lib.Dec.{T}
 use lib.ListN.{getD, set, length}
 use lib.Seq.{getD-set-same, getD-set-other}
+use borrow.Author.Count.{below-more}
 use native.Mathlib.Decide.{ℕ-discrete}
 use Rattle.masks.specs.Tests.{allBelow, countBelow, allFrom, mapFrom}
 use Rattle.masks.proofs.Truth.{and-l, and-r, and-i}
@@ -119,3 +120,11 @@ module _ {A : Type 0} where
       cases : ((j ≡ i) × (getD (set l i a) j d ≡ a)) ⊎ ((j ≢ i) × (getD (set l i a) j d ≡ getD l j d)) → P (getD l j d) (getD (set l i a) j d)
       cases (inl e) = subst (λ (x : A). P (getD l j d) x) (sym (e .1)) (subst (λ (x : ℕ). P (getD l x d) a) (sym (e .0)) new)
       cases (inr e) = subst (λ (x : A). P (getD l j d) x) (sym (e .1)) (same (getD l j d))
+
+-- a column, filled one place further
+pub column-more : {A : Type 0} (d : A) (f : ℕ → A) (l : List A) (i : ℕ) (v : A) → i < length l → ((k : ℕ) → k < i → getD l k d ≡ f k) → v ≡ f i
+    → (k : ℕ) → k < i + 1 → getD (set l i v) k d ≡ f k
+column-more d f l i v h p e =
+    below-more (λ k. getD (set l i v) k d ≡ f k) i
+    (λ k b. getD-set-other l i k v d (λ z. absurd (omega arith)) ∙ p k b)
+    (getD-set-same l i v d h ∙ e)

@@ -1,7 +1,7 @@
 -- Tests as facts: `T b` says that the test b passed.
-use mathlib.Core.Path.{_≡_, refl, sym, _∙_, subst}
+use mathlib.Core.Path.{_≡_, refl, sym, ap, _∙_, subst}
 use mathlib.Core.Logic.{_⊎_, inl, inr}
-use mathlib.Core.Bool.{Bool, true, false, cond, not, _&&_, _||_}
+use mathlib.Core.Bool.{Bool, true, false, cond, not, _&&_, _||_, and-true, and-assoc}
 use mathlib.Core.List.{List, [], _∷_}
 use Prim.Native.Nat.{ℕ, zero, suc, _≤_, _<_}
 use lib.Dec.{T, eqb, leb, ltb, not-T, leb→le, le→leb, ltb→lt, lt→ltb, eqb→eq, eqb-refl, nleb→lt, nltb→le}
@@ -99,6 +99,30 @@ pub each-at : (ts : List Bool) → T (each ts) → (i : ℕ) → T (getD ts i tr
 each-at [] h i = tt
 each-at (t ∷ ts) h zero = and-l t (each ts) h
 each-at (t ∷ ts) h (suc i) = each-at ts (and-r t (each ts) h) i
+
+-- tests joined from the left, as code joins them
+abbrev joinedWith : Bool → List Bool → Bool
+joinedWith a [] = a
+joinedWith a (t ∷ ts) = joinedWith (a && t) ts
+
+joined-each : (a : Bool) (ts : List Bool) → joinedWith a ts ≡ (a && each ts)
+joined-each a [] = sym (and-true a)
+joined-each a (t ∷ ts) = joined-each (a && t) ts ∙ and-assoc a t (each ts)
+
+abbrev pub fromLeft : List Bool → Bool
+fromLeft [] = true
+fromLeft (t ∷ ts) = joinedWith t ts
+
+pub left-each : (ts : List Bool) → fromLeft ts ≡ each ts
+left-each [] = refl
+left-each (t ∷ ts) = joined-each t ts
+
+-- a choice by a test whose outcome is known
+pub cond-true : {A : Type 0} (t : Bool) (a b : A) → t ≡ true → a ≡ cond t a b
+cond-true t a b e = ap (λ (x : Bool). cond x a b) (sym e)
+
+pub cond-false : {A : Type 0} (t : Bool) (a b : A) → t ≡ false → b ≡ cond t a b
+cond-false t a b e = ap (λ (x : Bool). cond x a b) (sym e)
 
 -- a choice between two tests
 pub cond-yes : (b s t : Bool) → T (cond b s t) → T b → T s

@@ -17,7 +17,7 @@ use Rattle.model.specs.declared.Origin.the-variants.{Role as ofRole, Cap
 use Rattle.model.specs.declared.Capability.{Capability}
 use Rattle.model.specs.declared.Session.{Session}
 use Rattle.model.specs.declared.Register.{Register}
-use Rattle.model.specs.State.{terms, roleAuthority, sessionAt, blankSession, originAt, inLife, exists}
+use Rattle.model.specs.State.{terms, roleAuthority, sessionAt, blankSession, originAt, lifeTests, inLife, exists}
 use Rattle.model.specs.Lineage.{Descends, here, Reaches}
 use Rattle.model.specs.Rules.{sessionKeeps, sessionTests, sessionBlank}
 use Rattle.model.specs.Invariant.{Below, RoleRules}
@@ -46,9 +46,8 @@ pub life-above : (r : Register) (n m : ℕ) → Below (termsOf r (ofCapability n
     → T (inLife (r .capabilities) (ofCapability n) (r .clock)) → T (inLife (r .capabilities) (ofCapability m) (r .clock))
 unfolding terms
 life-above r n m w h =
-    let begun : (capability r n) .first ≤ r .clock = leb→le _ _ (and-l (leb ((capability r n) .first) (r .clock)) _ h) in
-    let unended : r .clock ≤ (capability r n) .last = leb→le _ _ (and-r (leb ((capability r n) .first) (r .clock)) _ h) in
-    and-i (leb ((capability r m) .first) (r .clock)) _ (le→leb _ _ (le-trans (w .first) begun)) (le→leb _ _ (le-trans unended (w .last)))
+    let at = each→ (lifeTests (capability r n) (r .clock)) h in
+    each← (lifeTests (capability r m) (r .clock)) (le→leb _ _ (le-trans (w .first) (leb→le _ _ (at .0))), (le→leb _ _ (le-trans (leb→le _ _ (at .1 .0)) (w .last)), tt))
 
 module _ (r : Register) (derived : ℕ → Origin) (k : Kept r) (shows : Shows r derived) where
   pub shown : {n m : ℕ} → n < r .count → Descends derived n m → Descends (originAt (r .capabilities)) n m

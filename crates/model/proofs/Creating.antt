@@ -14,13 +14,15 @@ use Rattle.model.specs.declared.Origin.the-variants.{Role as ofRole, Cap
 use Rattle.model.specs.declared.Role.{Role}
 use Rattle.model.specs.declared.Capability.{Capability}
 use Rattle.model.specs.declared.Register.{Register}
+use Rattle.model.specs.declared.Context.{Context}
+use Rattle.model.specs.declared.Plan.{Plan}
 use Rattle.masks.specs.Tests.{countBelow}
 use Rattle.masks.proofs.MaskLaws.{ones-zero}
 use Rattle.model.specs.State.{party, mayCreate, newCapability, capabilityTerms, Terms, terms, claims, authority, capabilityAt, originAt, blankCapability, exists}
 use Rattle.model.specs.Lineage.{children, isParent}
 use Rattle.model.specs.Rules.{earlier}
 use Rattle.model.specs.Setters.{withCreations}
-use Rattle.model.specs.Delegation.{createRuling, counted}
+use Rattle.model.specs.Delegation.{createRuling, creationCounted}
 use Rattle.model.specs.Rulings.{termsOf}
 use Rattle.masks.proofs.Truth.{T→true, T→false}
 use Rattle.masks.proofs.Bounded.{set-cases, countBelow-ext, countBelow-none}
@@ -36,7 +38,7 @@ abbrev one-more : Origin → ℕ → ℕ
 one-more o i = cond (isParent i o) 1 0
 
 counted-at : (cs : List Capability) (o : Origin) (i : ℕ) → ((k : ℕ) → o ≡ ofCapability k → k < length cs)
-    → capabilityAt (counted cs o) i ≡ withCreations (capabilityAt cs i) ((capabilityAt cs i) .creations + one-more o i)
+    → capabilityAt (creationCounted cs o) i ≡ withCreations (capabilityAt cs i) ((capabilityAt cs i) .creations + one-more o i)
 counted-at cs (ofRole k) i h = ap (λ (x : ℕ). withCreations (capabilityAt cs i) x) (sym (add-zero _))
 counted-at cs (ofCapability m) i h = cases (set-cases cs m new blankCapability i (h m refl))
   where
@@ -59,7 +61,7 @@ counted-at cs (ofCapability m) i h = cases (set-cases cs m new blankCapability i
         (ap (λ (x : ℕ). withCreations (capabilityAt cs m) x) (plus-one ((capabilityAt cs m) .creations)))
     cases (inr e) = e .1 ∙ ap (λ (x : ℕ). withCreations (capabilityAt cs i) x) (plus-none ((capabilityAt cs i) .creations) (e .0))
 
-counted-length : (cs : List Capability) (o : Origin) → length (counted cs o) ≡ length cs
+counted-length : (cs : List Capability) (o : Origin) → length (creationCounted cs o) ≡ length cs
 counted-length cs (ofRole k) = refl
 counted-length cs (ofCapability m) = length-set cs m _
 
@@ -68,24 +70,24 @@ module _
     (o : Origin) (o-there : T (exists roles count o)) (may : T (mayCreate (party roles cs o)))
     (c : Capability) (c-origin : c .origin ≡ o) (c-creations : c .creations ≡ 0) (c-fits : Below (claims c) (terms roles cs o)) (c-own : OwnKept enrolled c) where
   abbrev pub created : List Capability
-  created = set (counted cs o) count c
+  created = set (creationCounted cs o) count c
 
   o-falls : (k : ℕ) → o ≡ ofCapability k → k < count
   unfolding exists
   o-falls k e = ltb→lt _ _ (subst (λ (x : Origin). T (exists roles count x)) e o-there)
 
-  created-in : count < length (counted cs o)
+  created-in : count < length (creationCounted cs o)
   created-in = omega (arith, counted-length cs o, kept .amount)
 
   created-length : length created ≡ 256
-  created-length = length-set (counted cs o) count c ∙ counted-length cs o ∙ kept .amount
+  created-length = length-set (creationCounted cs o) count c ∙ counted-length cs o ∙ kept .amount
 
   created-new : capabilityAt created count ≡ c
-  created-new = getD-set-same (counted cs o) count c blankCapability created-in
+  created-new = getD-set-same (creationCounted cs o) count c blankCapability created-in
 
   created-old : (i : ℕ) → i ≢ count → capabilityAt created i ≡ withCreations (capabilityAt cs i) ((capabilityAt cs i) .creations + one-more o i)
   created-old i e =
-      getD-set-other (counted cs o) count i c blankCapability e ∙ counted-at cs o i (λ k q. omega (arith, o-falls k q, kept .amount))
+      getD-set-other (creationCounted cs o) count i c blankCapability e ∙ counted-at cs o i (λ k q. omega (arith, o-falls k q, kept .amount))
 
   pub still-present : (x : Origin) → T (exists roles count x) → T (exists roles (suc count) x)
   unfolding exists
@@ -135,7 +137,7 @@ module _
             (λ (t : Terms). Below (claims (withCreations (capabilityAt cs i) ((capabilityAt cs i) .creations + one-more o i))) t)
             (sym (same-terms (originAt cs i) (old .origin-there)))
             (old .fits);
-        counted = ap (λ (x : ℕ). x + one-more o i) (old .counted) ∙ sym (created-children i);
+        creations-counted = ap (λ (x : ℕ). x + one-more o i) (old .creations-counted) ∙ sym (created-children i);
         creation-limit = limit-kept i l (isParent i o) refl;
         own =
             record { creator = old .own .creator; life = old .own .life; holders = old .own .holders; hops = old .own .hops; hop-limit = old .own .hop-limit; uses = old .own .uses };
@@ -148,7 +150,7 @@ module _
         placed = subst (λ (x : Origin). T (earlier count x)) (sym c-origin) (earlier-o o o-there);
         origin-there = subst (λ (x : Origin). T (exists roles (suc count) x)) (sym c-origin) (still-present o o-there);
         fits = subst (λ (x : Origin). Below (claims c) (terms roles created x)) (sym c-origin) (subst (λ (t : Terms). Below (claims c) t) (sym (same-terms o o-there)) c-fits);
-        counted = c-creations ∙ sym (created-children count ∙ ap₂ (λ (x : ℕ) (b : Bool). x + cond b 1 0) none-yet (no-child o o-falls));
+        creations-counted = c-creations ∙ sym (created-children count ∙ ap₂ (λ (x : ℕ) (b : Bool). x + cond b 1 0) none-yet (no-child o o-falls));
         creation-limit = omega (arith, c-creations);
         own = c-own;
       }
@@ -181,13 +183,12 @@ module _
       beyond i l (ofRole k) h = refl
       beyond i l (ofCapability k) h = T→false (eqb k i) (not-T (eqb k i) (λ t. omega (arith, h k refl, eqb→eq k i t)))
 
-pub create-keeps : (r : Register) (user : ℕ) (o : Origin) (a b d : ℕ) (first last uses creations hops hours places devices : ℕ)
-    → Kept r → Clear ((createRuling r user o a b d (newCapability user o first last uses creations hops hours places devices)) .guards)
-    → Kept ((createRuling r user o a b d (newCapability user o first last uses creations hops hours places devices)) .after)
+pub create-keeps : (r : Register) (user : ℕ) (o : Origin) (at : Context) (plan : Plan) → Kept r → Clear ((createRuling r user o at plan) .guards)
+    → Kept ((createRuling r user o at plan) .after)
 unfolding createRuling
-create-keeps r user o a b d first last uses creations hops hours places devices k g =
-    let c : Capability = newCapability user o first last uses creations hops hours places devices in
-    let rs = (createRuling r user o a b d c) .guards in
+create-keeps r user o at plan k g =
+    let c : Capability = newCapability user o plan in
+    let rs = (createRuling r user o at plan) .guards in
     let o-there : T (exists (r .roles) (r .count) o) = there-exists (r .roles) (r .capabilities) (r .count) o (passed 3 rs g .1 .0) in
     let room : r .count < 256 = ltb→lt _ _ (passed 12 rs g .0) in
     let fits : Below (claims c) (termsOf r o) = below→ _ _ (passed 11 rs g .0) in
@@ -213,21 +214,20 @@ create-keeps r user o a b d first last uses creations hops hours places devices 
     }
 
 -- the new pass has the origin named; the others keep theirs
-pub create-origins : (r : Register) (user : ℕ) (o : Origin) (a b d : ℕ) (first last uses creations hops hours places devices : ℕ)
-    → Kept r → Clear ((createRuling r user o a b d (newCapability user o first last uses creations hops hours places devices)) .guards)
+pub create-origins : (r : Register) (user : ℕ) (o : Origin) (at : Context) (plan : Plan) → Kept r → Clear ((createRuling r user o at plan) .guards)
     → (i : ℕ) → i < suc (r .count)
-    → originAt ((createRuling r user o a b d (newCapability user o first last uses creations hops hours places devices)) .after .capabilities) i ≡ cond (eqb (r .count) i) o (originAt (r .capabilities) i)
+    → originAt ((createRuling r user o at plan) .after .capabilities) i ≡ cond (eqb (r .count) i) o (originAt (r .capabilities) i)
 unfolding createRuling exists
-create-origins r user o a b d first last uses creations hops hours places devices k g i l = cases (eq-or-lt-of-le (le-of-suc-le-suc l))
+create-origins r user o at plan k g i l = cases (eq-or-lt-of-le (le-of-suc-le-suc l))
   where
     c : Capability
-    c = newCapability user o first last uses creations hops hours places devices
+    c = newCapability user o plan
 
     cs′ : List Capability
-    cs′ = set (counted (r .capabilities) o) (r .count) c
+    cs′ = set (creationCounted (r .capabilities) o) (r .count) c
 
     room : r .count < 256
-    room = ltb→lt _ _ (passed 12 ((createRuling r user o a b d c) .guards) g .0)
+    room = ltb→lt _ _ (passed 12 ((createRuling r user o at plan) .guards) g .0)
 
     o-falls′ : (x : Origin) → T (exists (r .roles) (r .count) x) → (j : ℕ) → x ≡ ofCapability j → j < length (r .capabilities)
     o-falls′ x h j e = omega (arith, ltb→lt j (r .count) (subst (λ (y : Origin). T (exists (r .roles) (r .count) y)) e h), k .capabilities .amount)
@@ -237,10 +237,10 @@ create-origins r user o a b d first last uses creations hops hours places device
         subst
         (λ (j : ℕ). originAt cs′ j ≡ cond (eqb (r .count) j) o (originAt (r .capabilities) j))
         (sym e)
-        (ap (λ (x : Capability). x .origin) (getD-set-same (counted (r .capabilities) o) (r .count) c blankCapability (omega (arith, room, counted-length (r .capabilities) o, k .capabilities .amount)))
+        (ap (λ (x : Capability). x .origin) (getD-set-same (creationCounted (r .capabilities) o) (r .count) c blankCapability (omega (arith, room, counted-length (r .capabilities) o, k .capabilities .amount)))
         ∙ sym (ap (λ (b : Bool). cond b o (originAt (r .capabilities) (r .count))) (T→true (eqb (r .count) (r .count)) (eqb-refl (r .count)))))
     cases (inr h) =
         ap (λ (x : Capability). x .origin)
-        (getD-set-other (counted (r .capabilities) o) (r .count) i c blankCapability (λ e. omega arith)
-        ∙ counted-at (r .capabilities) o i (o-falls′ o (there-exists (r .roles) (r .capabilities) (r .count) o (passed 3 ((createRuling r user o a b d c) .guards) g .1 .0))))
+        (getD-set-other (creationCounted (r .capabilities) o) (r .count) i c blankCapability (λ e. omega arith)
+        ∙ counted-at (r .capabilities) o i (o-falls′ o (there-exists (r .roles) (r .capabilities) (r .count) o (passed 3 ((createRuling r user o at plan) .guards) g .1 .0))))
         ∙ sym (ap (λ (b : Bool). cond b o (originAt (r .capabilities) i)) (T→false (eqb (r .count) i) (not-T (eqb (r .count) i) (λ t. omega (arith, eqb→eq (r .count) i t)))))

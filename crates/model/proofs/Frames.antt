@@ -14,6 +14,7 @@ use Rattle.model.specs.declared.Origin.{Origin}
 use Rattle.model.specs.declared.Origin.the-variants.{Role as ofRole, Capability as ofCapability}
 use Rattle.model.specs.declared.Role.{Role}
 use Rattle.model.specs.declared.Capability.{Capability}
+use Rattle.model.specs.declared.Context.{Context}
 use Rattle.model.specs.declared.Session.{Session}
 use Rattle.masks.specs.Masks.{has, within}
 use Rattle.model.specs.State.{capabilityTerms, Terms, terms, claims, authority, roleAt, capabilityAt, sessionAt, originAt, blankCapability, exists, admitted, admittedTests}
@@ -145,7 +146,7 @@ module _
                 (λ (o : Origin). Below (claims (capabilityAt cs′ n)) (terms roles′ cs′ o))
                 (sym (f .origin))
                 (still-fits (capabilityAt cs n) (capabilityAt cs′ n) _ _ f (alike (originAt cs n)) (old .fits) (claim n l));
-            counted = f .creations ∙ old .counted ∙ sym (children-same count cs cs′ (λ m g. frames m .origin) n);
+            creations-counted = f .creations ∙ old .creations-counted ∙ sym (children-same count cs cs′ (λ m g. frames m .origin) n);
             creation-limit = omega (arith, old .creation-limit, f .creations, f .creation-limit);
             own = own n l;
           }
@@ -154,17 +155,17 @@ module _
   unfolding admitted
   reworked-sessions enrolled ss kept = moved-sessions enrolled enrolled roles roles′ count count cs cs′ (λ u h. h) still-exists admits ss kept
     where
-      admits : (o : Origin) → T (exists roles count o) → (a b c : ℕ) → T (admitted (terms roles cs o) a b c) → T (admitted (terms roles′ cs′ o) a b c)
-      admits o g a b c h =
+      admits : (o : Origin) → T (exists roles count o) → (at : Context) → T (admitted (terms roles cs o) at) → T (admitted (terms roles′ cs′ o) at)
+      admits o g at h =
           let k : Alike (terms roles cs o) (terms roles′ cs′ o) = alike o in
-          let e : Each (admittedTests (terms roles cs o) a b c) = each→ (admittedTests (terms roles cs o) a b c) h in
+          let e : Each (admittedTests (terms roles cs o) at) = each→ (admittedTests (terms roles cs o) at) h in
           each←
-          (admittedTests (terms roles′ cs′ o) a b c) (
-            subst (λ (x : ℕ). T (has x a)) (sym (k .hours)) (e .0),
+          (admittedTests (terms roles′ cs′ o) at) (
+            subst (λ (x : ℕ). T (has x (at .hour))) (sym (k .hours)) (e .0),
             (
-              subst (λ (x : ℕ). T (has x b)) (sym (k .places)) (e .1 .0),
+              subst (λ (x : ℕ). T (has x (at .place))) (sym (k .places)) (e .1 .0),
               (
-                subst (λ (x : ℕ). T (has x c)) (sym (k .devices)) (e .1 .1 .0),
+                subst (λ (x : ℕ). T (has x (at .device))) (sym (k .devices)) (e .1 .1 .0),
                 tt,
               ),
             ),

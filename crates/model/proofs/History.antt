@@ -47,8 +47,7 @@ accepted-origins r (withdraw j p) derived k g h i l = withdraw-origins r j p k g
 accepted-origins r (appoint u j) derived k g h i l = h i l
 accepted-origins r (dismiss u j) derived k g h i l = h i l
 accepted-origins r (clock tick) derived k g h i l = h i l
-accepted-origins r (create user o hour place device first last uses creations hops hours places devices) derived k g h i l =
-    create-origins r user o hour place device first last uses creations hops hours places devices k g i l ∙ named-or-old (eqb (r .count) i) refl
+accepted-origins r (create user o at plan) derived k g h i l = create-origins r user o at plan k g i l ∙ named-or-old (eqb (r .count) i) refl
   where
     named-or-old : (b : Bool) → eqb (r .count) i ≡ b → cond b o (originAt (r .capabilities) i) ≡ cond b o (derived i)
     named-or-old true e = refl
@@ -60,7 +59,7 @@ accepted-origins r (create user o hour place device first last uses creations ho
 accepted-origins r (allow user n mask) derived k g h i l = allow-origins r user n mask k g i ∙ h i l
 accepted-origins r (lend user n mask) derived k g h i l = lend-origins r user n mask k g i ∙ h i l
 accepted-origins r (hand user receiver n) derived k g h i l = hand-origins r user receiver n k g i ∙ h i l
-accepted-origins r (opening s user o hour place device) derived k g h i l = open-origins r s user o hour place device k g i ∙ h i l
+accepted-origins r (opening s user o at) derived k g h i l = open-origins r s user o at k g i ∙ h i l
 accepted-origins r (check s p) derived k g h i l = h i l
 accepted-origins r (amend user n change) derived k g h i l = amend-origins r user n change k g i ∙ h i l
 accepted-origins r (revoke user n) derived k g h i l = revoke-origins r user n k g i ∙ h i l

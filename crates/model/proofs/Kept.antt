@@ -122,7 +122,7 @@ pub record CapabilityKept (enrolled : ℕ) (roles : List Role) (count : ℕ) (cs
   pub placed : T (earlier n (c .origin))
   pub origin-there : T (exists roles count (c .origin))
   pub fits : Below (claims c) (terms roles cs (c .origin))
-  pub counted : c .creations ≡ children count cs n
+  pub creations-counted : c .creations ≡ children count cs n
   pub creation-limit : c .creations ≤ c .«creation_limit»
   pub own : OwnKept enrolled c
 

@@ -9,6 +9,7 @@ use Rattle.model.specs.declared.Origin.{Origin}
 use Rattle.model.specs.declared.Origin.the-variants.{Role as ofRole, Capability as ofCapability}
 use Rattle.model.specs.declared.Session.{Session}
 use Rattle.model.specs.declared.Register.{Register}
+use Rattle.model.specs.declared.Context.{Context}
 use Rattle.masks.proofs.Truth.{each←}
 use Rattle.model.specs.State.{mayUse, terms, claims, authority, originAt, blankSession, exists}
 use Rattle.model.specs.Rules.{sessionKeeps, sessionTests, sessionBlank}
@@ -51,11 +52,11 @@ used-keeps r (ofCapability n) k h u =
     (record { grants = f .grants; lendable = f .lendable; use-limit = f .use-limit; revoked = f .revoked })
     (grows-refl (termsOf r (ofCapability n)))
 
-pub open-keeps : (r : Register) (s user : ℕ) (o : Origin) (a b c : ℕ) → Kept r → Clear ((openRuling r s user o a b c) .guards) → Kept ((openRuling r s user o a b c) .after)
+pub open-keeps : (r : Register) (s user : ℕ) (o : Origin) (at : Context) → Kept r → Clear ((openRuling r s user o at) .guards) → Kept ((openRuling r s user o at) .after)
 unfolding openRuling sessionKeeps
-open-keeps r s user o a b c k g =
-    let x : Session = newSession user o a b c in
-    let gs = (openRuling r s user o a b c) .guards in
+open-keeps r s user o at k g =
+    let x : Session = newSession user o at in
+    let gs = (openRuling r s user o at) .guards in
     let exists-o : T (exists (r .roles) (r .count) o) = there-exists (r .roles) (r .capabilities) (r .count) o (passed 3 gs g .1 .0) in
     used-keeps (withSessions r (set (r .sessions) s x)) o
     (record {
@@ -88,6 +89,6 @@ unfolding exists
 used-origins r (ofRole j) k h i = refl
 used-origins r (ofCapability n) k h i = put-origins r n (withUses (capability r n) (suc ((capability r n) .uses))) k (ltb→lt _ _ h) (framed (capability r n) refl) i
 
-pub open-origins : (r : Register) (s user : ℕ) (o : Origin) (a b c : ℕ) → Kept r → Clear ((openRuling r s user o a b c) .guards) → (i : ℕ) → originAt ((openRuling r s user o a b c) .after .capabilities) i ≡ originAt (r .capabilities) i
+pub open-origins : (r : Register) (s user : ℕ) (o : Origin) (at : Context) → Kept r → Clear ((openRuling r s user o at) .guards) → (i : ℕ) → originAt ((openRuling r s user o at) .after .capabilities) i ≡ originAt (r .capabilities) i
 unfolding openRuling
-open-origins r s user o a b c k g = used-origins r o k (there-exists (r .roles) (r .capabilities) (r .count) o (passed 3 ((openRuling r s user o a b c) .guards) g .1 .0))
+open-origins r s user o at k g = used-origins r o k (there-exists (r .roles) (r .capabilities) (r .count) o (passed 3 ((openRuling r s user o at) .guards) g .1 .0))

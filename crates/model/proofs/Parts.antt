@@ -32,7 +32,7 @@ module _ (enrolled enrolled′ : ℕ) (more : T (within enrolled enrolled′)) w
               placed = c .placed;
               origin-there = c .origin-there;
               fits = c .fits;
-              counted = c .counted;
+              creations-counted = c .creations-counted;
               creation-limit = c .creation-limit;
               own =
                   record {
@@ -48,7 +48,7 @@ module _ (enrolled enrolled′ : ℕ) (more : T (within enrolled enrolled′)) w
       }
 
   pub more-sessions : (roles : List Role) (count : ℕ) (cs : List Capability) (ss : List Session) → SessionsKept enrolled roles count cs ss → SessionsKept enrolled′ roles count cs ss
-  more-sessions roles count cs = moved-sessions enrolled enrolled′ roles roles count count cs cs (within-has enrolled enrolled′ more) (λ o h. h) (λ o g a b c h. h)
+  more-sessions roles count cs = moved-sessions enrolled enrolled′ roles roles count count cs cs (within-has enrolled enrolled′ more) (λ o h. h) (λ o g at h. h)
 
 -- ---- roles whose authority grows, else framed
 
@@ -89,7 +89,7 @@ module _
   pub same-sessions : (enrolled : ℕ) (ss : List Session) → SessionsKept enrolled roles count cs ss → SessionsKept enrolled roles′ count′ cs′ ss
   same-sessions enrolled =
       moved-sessions enrolled enrolled roles roles′ count count′ cs cs′ (λ u h. h) still
-      (λ o g a b c h. subst (λ (x : Terms). T (admitted x a b c)) (sym (same o g)) h)
+      (λ o g at h. subst (λ (x : Terms). T (admitted x at)) (sym (same o g)) h)
 
   pub moved-capabilities : (enrolled : ℕ) → count′ ≡ count → cs′ ≡ cs → CapabilitiesKept enrolled roles count cs → CapabilitiesKept enrolled roles′ count cs
   moved-capabilities enrolled p q k =
@@ -104,7 +104,7 @@ module _
               fits =
                   subst (λ (x : List Capability). Below (claims (capabilityAt cs n)) (terms roles′ x (originAt cs n))) q
                   (subst (λ (t : Terms). Below (claims (capabilityAt cs n)) t) (sym (same (originAt cs n) (c .origin-there))) (c .fits));
-              counted = c .counted;
+              creations-counted = c .creations-counted;
               creation-limit = c .creation-limit;
               own = c .own;
             };

@@ -13,8 +13,9 @@ use Rattle.masks.proofs.Bounded.{set-cases, allBelow-at, allBelow-i}
 use Rattle.model.specs.declared.Origin.{Origin}
 use Rattle.model.specs.declared.Role.{Role}
 use Rattle.model.specs.declared.Capability.{Capability}
+use Rattle.model.specs.declared.Context.{Context}
 use Rattle.model.specs.declared.Session.{Session}
-use Rattle.model.specs.State.{terms, roleAt, sessionAt, blankRole, blankSession, admitted, exists}
+use Rattle.model.specs.State.{terms, roleAt, sessionAt, blankRole, blankSession, openedIn, admitted, exists}
 use Rattle.model.specs.Rules.{roleKeeps, roleTests, roleBlank, sameDomain, sessionKeeps, sessionTests, sessionBlank}
 use Rattle.model.specs.Invariant.{RoleRules}
 use Rattle.model.proofs.Kept.{RolesKept, SessionsKept}
@@ -91,7 +92,7 @@ module _
     (enrolled enrolled′ : ℕ) (roles roles′ : List Role) (count count′ : ℕ) (cs cs′ : List Capability)
     (users : (u : ℕ) → T (has enrolled u) → T (has enrolled′ u))
     (still : (o : Origin) → T (exists roles count o) → T (exists roles′ count′ o))
-    (admits : (o : Origin) → T (exists roles count o) → (a b c : ℕ) → T (admitted (terms roles cs o) a b c) → T (admitted (terms roles′ cs′ o) a b c)) where
+    (admits : (o : Origin) → T (exists roles count o) → (at : Context) → T (admitted (terms roles cs o) at) → T (admitted (terms roles′ cs′ o) at)) where
   pub moved-sessions : (ss : List Session) → SessionsKept enrolled roles count cs ss → SessionsKept enrolled′ roles′ count′ cs′ ss
   unfolding sessionKeeps
   moved-sessions ss k = record { amount = k .amount; session = λ i l. one i (sessionAt ss i) (k .session i l) }
@@ -114,7 +115,7 @@ module _
                   users (s .user) (e .1 .1 .1 .0),
                   (
                     still (s .on) (e .1 .1 .1 .1 .0),
-                    (admits (s .on) (e .1 .1 .1 .1 .0) (s .hour) (s .place) (s .device) (e .1 .1 .1 .1 .1 .0), tt),
+                    (admits (s .on) (e .1 .1 .1 .1 .0) (openedIn s) (e .1 .1 .1 .1 .1 .0), tt),
                   ),
                 ),
               ),

@@ -13,7 +13,7 @@ use Rattle.model.specs.declared.Origin.the-variants.{Role as ofRole, Cap
 use Rattle.model.specs.declared.Role.{Role}
 use Rattle.model.specs.declared.Capability.{Capability}
 use Rattle.model.specs.declared.Session.{Session}
-use Rattle.model.specs.State.{terms, roleAt, blankRole, blankSession, exists, admitted, admittedTests, inContext}
+use Rattle.model.specs.State.{terms, roleAt, blankRole, blankSession, openedIn, exists, admitted, admittedTests, inContext}
 use Rattle.model.specs.Rules.{isOrigin, roleBlank, roleBlankTests, rangeTests, inRange, allFounded, earlier, ownTests, ownKeeps, capabilityTests, capabilityKeeps, sessionTests, sessionBlank, sessionBlankTests}
 use Rattle.model.specs.Invariant.{OriginInRange, Exists, Earlier, CapabilityRanges, CapabilityRules, SessionRules}
 use Rattle.model.proofs.Kept.{below→, below←, role-zero, CapabilityKept}
@@ -150,7 +150,7 @@ module _ (enrolled : ℕ) (roles : List Role) (count : ℕ) (cs : List Capabilit
         placed = earlier← n (c .origin) (h .origin-earlier);
         origin-there = exists← roles count (c .origin) (h .origin-exists);
         fits = h .below-origin;
-        counted = h .creations-counted;
+        creations-counted = h .creations-counted;
         creation-limit = h .creations-limited;
         own =
             record {
@@ -177,7 +177,7 @@ module _ (enrolled : ℕ) (roles : List Role) (count : ℕ) (cs : List Capabilit
               (
                 below← _ _ (h .fits),
                 (
-                  eq→eqb _ _ (h .counted),
+                  eq→eqb _ _ (h .creations-counted),
                   (
                     le→leb _ _ (h .creation-limit),
                     (
@@ -201,7 +201,7 @@ module _ (enrolled : ℕ) (roles : List Role) (count : ℕ) (cs : List Capabilit
   session→ h =
       let e : Each (sessionTests enrolled roles count cs s) = each→ (sessionTests enrolled roles count cs s) h in
       let at : Each (ltb (s .hour) 24 ∷ ltb (s .place) 16 ∷ ltb (s .device) 16 ∷ []) = each→ (ltb (s .hour) 24 ∷ ltb (s .place) 16 ∷ ltb (s .device) 16 ∷ []) (e .1 .1 .0) in
-      let admits : Each (admittedTests (terms roles cs (s .on)) (s .hour) (s .place) (s .device)) = each→ (admittedTests (terms roles cs (s .on)) (s .hour) (s .place) (s .device)) (e .1 .1 .1 .1 .1 .0) in
+      let admits : Each (admittedTests (terms roles cs (s .on)) (openedIn s)) = each→ (admittedTests (terms roles cs (s .on)) (openedIn s)) (e .1 .1 .1 .1 .1 .0) in
       record {
         user = ltb→lt _ _ (e .0);
         on-range = origin→ (s .on) (e .1 .0);
@@ -227,7 +227,7 @@ module _ (enrolled : ℕ) (roles : List Role) (count : ℕ) (cs : List Capabilit
               (
                 exists← roles count (s .on) (h .on-exists),
                 (
-                  each← (admittedTests (terms roles cs (s .on)) (s .hour) (s .place) (s .device)) (h .context-admitted .hours, (h .context-admitted .places, (h .context-admitted .devices, tt))),
+                  each← (admittedTests (terms roles cs (s .on)) (openedIn s)) (h .context-admitted .hours, (h .context-admitted .places, (h .context-admitted .devices, tt))),
                   tt,
                 ),
               ),

@@ -35,12 +35,11 @@ accepted-keeps r (withdraw k p) = withdraw-keeps r k p
 accepted-keeps r (appoint user k) = appoint-keeps r user k
 accepted-keeps r (dismiss user k) = dismiss-keeps r user k
 accepted-keeps r (clock tick) = clock-keeps r tick
-accepted-keeps r (create user o hour place device first last uses creations hops hours places devices) =
-    create-keeps r user o hour place device first last uses creations hops hours places devices
+accepted-keeps r (create user o at plan) = create-keeps r user o at plan
 accepted-keeps r (allow user n mask) = allow-keeps r user n mask
 accepted-keeps r (lend user n mask) = lend-keeps r user n mask
 accepted-keeps r (hand user receiver n) = hand-keeps r user receiver n
-accepted-keeps r (opening s user o hour place device) = open-keeps r s user o hour place device
+accepted-keeps r (opening s user o at) = open-keeps r s user o at
 accepted-keeps r (check s p) = check-keeps r s p
 accepted-keeps r (amend user n change) = amend-keeps r user n change
 accepted-keeps r (revoke user n) = revoke-keeps r user n

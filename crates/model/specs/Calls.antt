@@ -3,7 +3,8 @@ use mathlib.Core.List.{List, [], _∷_}
 use Prim.Native.Nat.{ℕ}
 use Rattle.model.specs.declared.Origin.{Origin}
 use Rattle.model.specs.declared.Register.{Register}
-use Rattle.model.specs.State.{newCapability}
+use Rattle.model.specs.declared.Context.{Context}
+use Rattle.model.specs.declared.Plan.{Plan}
 use Rattle.model.specs.Rules.{wellFormed}
 use Rattle.model.specs.Rulings.{Effect, Ruling, Guard, _unless_, settle, ruled}
 use Rattle.model.specs.Administration.{enrolRuling, foundRuling, grantRuling, withdrawRuling, appointRuling, dismissRuling, clockRuling}
@@ -21,11 +22,11 @@ pub data Call : Type 0 where
   appoint : (user role : ℕ) → Call
   dismiss : (user role : ℕ) → Call
   clock : (tick : ℕ) → Call
-  create : (user : ℕ) (origin : Origin) (hour place device first last uses creations hops hours places devices : ℕ) → Call
+  create : (user : ℕ) (origin : Origin) (at : Context) (plan : Plan) → Call
   allow : (user capability permissions : ℕ) → Call
   lend : (user capability roles : ℕ) → Call
   hand : (user receiver capability : ℕ) → Call
-  opening : (session user : ℕ) (on : Origin) (hour place device : ℕ) → Call
+  opening : (session user : ℕ) (on : Origin) (at : Context) → Call
   check : (session permission : ℕ) → Call
   amend : (user capability : ℕ) (change : Change) → Call
   revoke : (user capability : ℕ) → Call
@@ -40,12 +41,11 @@ ruling r (withdraw k p) = withdrawRuling r k p
 ruling r (appoint user k) = appointRuling r user k
 ruling r (dismiss user k) = dismissRuling r user k
 ruling r (clock tick) = clockRuling r tick
-ruling r (create user o hour place device first last uses creations hops hours places devices) =
-    createRuling r user o hour place device (newCapability user o first last uses creations hops hours places devices)
+ruling r (create user o at plan) = createRuling r user o at plan
 ruling r (allow user n mask) = allowRuling r user n mask
 ruling r (lend user n mask) = lendRuling r user n mask
 ruling r (hand user receiver n) = handRuling r user receiver n
-ruling r (opening s user o hour place device) = openRuling r s user o hour place device
+ruling r (opening s user o at) = openRuling r s user o at
 ruling r (check s p) = checkRuling r s p
 ruling r (amend user n change) = amendRuling r user n change
 ruling r (revoke user n) = revokeRuling r user n

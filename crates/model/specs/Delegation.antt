@@ -10,60 +10,62 @@ use Rattle.model.specs.declared.Origin.{Origin}
 use Rattle.model.specs.declared.Origin.the-variants.{Role as ofRole, Capability as ofCapability}
 use Rattle.model.specs.declared.Capability.{Capability}
 use Rattle.model.specs.declared.Register.{Register}
-use Rattle.model.specs.State.{Party, there, hasMember, lives, mayCreate, Terms, capabilityAt, authority, claims, below, admitted, inContext}
+use Rattle.model.specs.declared.Context.{Context}
+use Rattle.model.specs.declared.Plan.{Plan}
+use Rattle.model.specs.State.{newCapability, Party, there, hasMember, lives, mayCreate, Terms, capabilityAt, authority, claims, below, admitted, inContext}
 use Rattle.model.specs.Rules.{isUser, isCapability, isOrigin, bits}
 use Rattle.model.specs.Setters.{withPermissions, withLent, withHolders, withCreations, withCapabilities, withCount}
 use Rattle.model.specs.Rulings.{Ruling, into, Guard, _unless_, _when_, capability, partyOf, termsOf}
 
 -- "a pass as origin counts one creation more"
-abbrev pub countedOnce : Capability → Capability
-countedOnce c = withCreations c (suc (c .creations))
+abbrev pub createdOnce : Capability → Capability
+createdOnce c = withCreations c (suc (c .creations))
 
-abbrev pub counted : List Capability → Origin → List Capability
-counted cs (ofRole k) = cs
-counted cs (ofCapability n) = set cs n (countedOnce (capabilityAt cs n))
+abbrev pub creationCounted : List Capability → Origin → List Capability
+creationCounted cs (ofRole k) = cs
+creationCounted cs (ofCapability n) = set cs n (createdOnce (capabilityAt cs n))
 
--- create: "2, also for first above last"; c is the new capability
-abbrev pub createRanges : (user : ℕ) → Origin → (hour place device : ℕ) → Capability → List Bool
-createRanges user o hour place device c =
+-- create: "2, also for first above last"
+abbrev pub createRanges : (user : ℕ) → Origin → Context → Plan → List Bool
+createRanges user o at plan =
     isUser user
     ∷ isOrigin o
-    ∷ inContext hour place device
-    ∷ bits 32 (c .first)
-    ∷ bits 32 (c .last)
-    ∷ bits 16 (c .«use_limit»)
-    ∷ bits 16 (c .«creation_limit»)
-    ∷ bits 16 (c .«hop_limit»)
-    ∷ bits 24 (c .hours)
-    ∷ bits 16 (c .places)
-    ∷ bits 16 (c .devices)
-    ∷ leb (c .first) (c .last)
+    ∷ inContext at
+    ∷ bits 32 (plan .first)
+    ∷ bits 32 (plan .last)
+    ∷ bits 16 (plan .uses)
+    ∷ bits 16 (plan .creations)
+    ∷ bits 16 (plan .hops)
+    ∷ bits 24 (plan .hours)
+    ∷ bits 16 (plan .places)
+    ∷ bits 16 (plan .devices)
+    ∷ leb (plan .first) (plan .last)
     ∷ []
 
 -- "create user, role or pass, its number, hour place device, first last, use creation hop limits, hours places devices."
 -- y is the origin, with the terms t; "6 user not appointed or not a holder, or authority lacks create", which is permission 0
-abbrev pub creating : (clock enrolled count : ℕ) → Party → Terms → (user : ℕ) → Origin → (hour place device : ℕ) → Capability → Ruling Capability
-creating clock enrolled count y t user o hour place device c =
+abbrev pub creating : (clock enrolled count : ℕ) → Party → Terms → (user : ℕ) → Origin → Context → Plan → Ruling Capability
+creating clock enrolled count y t user o at plan =
     record {
       guards =
-          2 unless createRanges user o hour place device c
+          2 unless createRanges user o at plan
           ∷ 3 unless (has enrolled user ∷ there count y ∷ [])
           ∷ 6 unless (hasMember y user ∷ has (t .grants) 0 ∷ [])
           ∷ 7 when t .revoked
           ∷ 8 unless (lives y clock ∷ [])
-          ∷ 9 unless (admitted t hour place device ∷ [])
+          ∷ 9 unless (admitted t at ∷ [])
           ∷ 10 unless (mayCreate y ∷ [])
-          ∷ 11 unless (below (claims c) t ∷ [])
+          ∷ 11 unless (below (claims (newCapability user o plan)) t ∷ [])
           ∷ 12 unless (ltb count 256 ∷ [])
           ∷ [];
       result = count;
-      after = c;
+      after = newCapability user o plan;
     }
 
-unfoldable pub createRuling : Register → ℕ → Origin → (hour place device : ℕ) → Capability → Ruling Register
-createRuling r user o hour place device c =
-    into (λ d. withCount r (suc (r .count)) (set (counted (r .capabilities) o) (r .count) d))
-    (creating (r .clock) (r .enrolled) (r .count) (partyOf r o) (termsOf r o) user o hour place device c)
+unfoldable pub createRuling : Register → ℕ → Origin → Context → Plan → Ruling Register
+createRuling r user o at plan =
+    into (λ c. withCount r (suc (r .count)) (set (creationCounted (r .capabilities) o) (r .count) c))
+    (creating (r .clock) (r .enrolled) (r .count) (partyOf r o) (termsOf r o) user o at plan)
 
 -- the register with capability n put anew
 abbrev pub putting : Register → ℕ → Capability → Register

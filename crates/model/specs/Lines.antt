@@ -9,7 +9,10 @@ use lib.Dec.{eqb, leb, ltb}
 use lib.ListN.{getD, length}
 use Rattle.masks.specs.Bytes.{bytes, sameBytes, split}
 use Rattle.model.specs.declared.Origin.{Origin}
+use Rattle.model.specs.declared.Context.{Context}
+use Rattle.model.specs.declared.Plan.{Plan}
 use Rattle.model.specs.declared.Origin.the-variants.{Role as ofRole, Capability as ofCapability}
+use Rattle.model.specs.State.{contextOf, planOf}
 use Rattle.model.specs.Rules.{bits}
 use Rattle.model.specs.Rulings.{Outcome, value, refused}
 use Rattle.model.specs.Revocation.{Change, raise, lower}
@@ -62,6 +65,13 @@ numbers (suc k) (w ∷ ws) = andThen (numeral w) (λ n. andThen (numbers k ws) (
 abbrev pub nth : List ℕ → ℕ → ℕ
 nth v i = getD v i 0
 
+-- "its number, hour place device, first last, use creation hop limits, hours places devices"
+abbrev pub contextIn : List ℕ → Context
+contextIn v = contextOf (nth v 1) (nth v 2) (nth v 3)
+
+abbrev pub planIn : List ℕ → Plan
+planIn v = planOf (nth v 4) (nth v 5) (nth v 6) (nth v 7) (nth v 8) (nth v 9) (nth v 10) (nth v 11)
+
 -- a call whose arguments are k numbers
 abbrev pub ofNumbers : ℕ → (List ℕ → Call) → List (List ℕ) → Option Call
 ofNumbers k build args = andThen (numbers k args) (λ v. some (build v))
@@ -77,9 +87,7 @@ createIn (user ∷ []) = none
 createIn (user ∷ kind ∷ rest) =
     andThen (numeral user) (λ u.
     andThen (numbers 12 rest) (λ v.
-    andThen (originIn kind (nth v 0)) (λ o.
-    some
-    (create u o (nth v 1) (nth v 2) (nth v 3) (nth v 4) (nth v 5) (nth v 6) (nth v 7) (nth v 8) (nth v 9) (nth v 10) (nth v 11)))))
+    andThen (originIn kind (nth v 0)) (λ o. some (create u o (contextIn v) (planIn v)))))
 
 -- "open session user, role or pass, number, hour place device"
 abbrev pub openIn : List (List ℕ) → Option Call
@@ -90,7 +98,7 @@ openIn (session ∷ user ∷ kind ∷ rest) =
     andThen (numeral session) (λ s.
     andThen (numeral user) (λ u.
     andThen (numbers 4 rest) (λ v.
-    andThen (originIn kind (nth v 0)) (λ o. some (opening s u o (nth v 1) (nth v 2) (nth v 3))))))
+    andThen (originIn kind (nth v 0)) (λ o. some (opening s u o (contextIn v))))))
 
 -- "amend user pass change"
 abbrev pub amendIn : List (List ℕ) → Option Call

@@ -41,8 +41,7 @@ calls (c ∷ cs) = call c ∷ calls cs
 
 -- what each capability is derived from after an accepted call with the value v
 abbrev pub derivedBy : Call → ℕ → (ℕ → Origin) → ℕ → Origin
-derivedBy (create user o hour place device first last uses creations hops hours places devices) v derived n =
-    cond (eqb v n) o (derived n)
+derivedBy (create user o at plan) v derived n = cond (eqb v n) o (derived n)
 derivedBy (enrol user domain) v derived n = derived n
 derivedBy (found k domain hours places devices) v derived n = derived n
 derivedBy (grant k p) v derived n = derived n
@@ -53,7 +52,7 @@ derivedBy (clock tick) v derived n = derived n
 derivedBy (allow user m mask) v derived n = derived n
 derivedBy (lend user m mask) v derived n = derived n
 derivedBy (hand user receiver m) v derived n = derived n
-derivedBy (opening s user o hour place device) v derived n = derived n
+derivedBy (opening s user o at) v derived n = derived n
 derivedBy (check s p) v derived n = derived n
 derivedBy (amend user m change) v derived n = derived n
 derivedBy (revoke user m) v derived n = derived n

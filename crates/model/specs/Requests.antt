@@ -67,12 +67,11 @@ localCall (Grant role permission) = grant role permission
 localCall (Appoint user role) = appoint user role
 localCall (Dismiss user role) = dismiss user role
 localCall (Clock tick) = clock tick
-localCall (Create user origin at plan) =
-    create user (namedOrigin origin) (at .hour) (at .place) (at .device) (plan .first) (plan .last) (plan .uses) (plan .creations) (plan .hops) (plan .hours) (plan .places) (plan .devices)
+localCall (Create user origin at plan) = create user (namedOrigin origin) at plan
 localCall (Allow user capability permissions) = allow user capability permissions
 localCall (Lend user capability roles) = lend user capability roles
 localCall (Hand user receiver capability) = hand user receiver capability
-localCall (Open session user on at) = opening session user (namedOrigin on) (at .hour) (at .place) (at .device)
+localCall (Open session user on at) = opening session user (namedOrigin on) at
 localCall (Check session permission) = check session permission
 localCall (Close session) = close session
 

@@ -14,7 +14,7 @@ use Rattle.model.specs.declared.Role.{Role}
 use Rattle.model.specs.declared.Capability.{Capability}
 use Rattle.model.specs.declared.Session.{Session}
 use Rattle.model.specs.declared.Register.{Register}
-use Rattle.model.specs.State.{roleAt, exists, terms, claims, below, admitted, inContext}
+use Rattle.model.specs.State.{roleAt, exists, terms, claims, below, admitted, inContext, openedIn}
 use Rattle.model.specs.Lineage.{children}
 
 -- ---- "Domains are 0 to 7, users 0 to 63, roles 0 to 31, permissions 0 to 31, passes 0 to 255, sessions 0 to 63."
@@ -195,10 +195,10 @@ abbrev pub sessionTests : ℕ → List Role → ℕ → List Capability → Sess
 sessionTests enrolled roles count cs s =
     isUser (s .user)
     ∷ isOrigin (s .on)
-    ∷ inContext (s .hour) (s .place) (s .device)
+    ∷ inContext (openedIn s)
     ∷ has enrolled (s .user)
     ∷ exists roles count (s .on)
-    ∷ admitted (terms roles cs (s .on)) (s .hour) (s .place) (s .device)
+    ∷ admitted (terms roles cs (s .on)) (openedIn s)
     ∷ []
 
 unfoldable pub sessionKeeps : ℕ → List Role → ℕ → List Capability → ℕ → Session → Bool

@@ -10,6 +10,7 @@ use Rattle.model.specs.declared.Origin.the-variants.{Role as ofRole, Cap
 use Rattle.model.specs.declared.Capability.{Capability}
 use Rattle.model.specs.declared.Session.{Session}
 use Rattle.model.specs.declared.Register.{Register}
+use Rattle.model.specs.declared.Context.{Context}
 use Rattle.model.specs.State.{Party, there, hasMember, lives, mayUse, Terms, capabilityAt, sessionAt, blankSession, admitted, inContext}
 use Rattle.model.specs.Rules.{isUser, isSession, isPermission, isOrigin}
 use Rattle.model.specs.Setters.{withUses, withCapabilities, withSessions}
@@ -23,27 +24,27 @@ abbrev pub used : List Capability → Origin → List Capability
 used cs (ofRole k) = cs
 used cs (ofCapability n) = set cs n (usedOnce (capabilityAt cs n))
 
-abbrev pub newSession : (user : ℕ) (o : Origin) (hour place device : ℕ) → Session
-newSession user o hour place device =
-    record { active = true; user = user; on = o; hour = hour; place = place; device = device }
+abbrev pub newSession : (user : ℕ) → Origin → Context → Session
+newSession user o at =
+    record { active = true; user = user; on = o; hour = at .hour; place = at .place; device = at .device }
 
 -- "open session user, role or pass, number, hour place device. 2; 3; 4 session already open; 6 not appointed or not a
 -- holder; 7; 8; 9; 10 uses at or above their limit.": x is the session, y what it is to be on, with the terms t
-abbrev pub openingSession : (clock enrolled count : ℕ) → Session → Party → Terms → (s user : ℕ) → Origin → (hour place device : ℕ) → Ruling Session
-openingSession clock enrolled count x y t s user o hour place device =
+abbrev pub openingSession : (clock enrolled count : ℕ) → Session → Party → Terms → (s user : ℕ) → Origin → Context → Ruling Session
+openingSession clock enrolled count x y t s user o at =
     record {
       guards =
-          2 unless (isSession s ∷ isUser user ∷ isOrigin o ∷ inContext hour place device ∷ [])
+          2 unless (isSession s ∷ isUser user ∷ isOrigin o ∷ inContext at ∷ [])
           ∷ 3 unless (has enrolled user ∷ there count y ∷ [])
           ∷ 4 when x .active
           ∷ 6 unless (hasMember y user ∷ [])
           ∷ 7 when t .revoked
           ∷ 8 unless (lives y clock ∷ [])
-          ∷ 9 unless (admitted t hour place device ∷ [])
+          ∷ 9 unless (admitted t at ∷ [])
           ∷ 10 unless (mayUse y ∷ [])
           ∷ [];
       result = 0;
-      after = newSession user o hour place device;
+      after = newSession user o at;
     }
 
 -- "1 on a role if the user is still appointed and the role's authority has the permission; on a pass if the user holds it,
@@ -83,10 +84,10 @@ session r s = sessionAt (r .sessions) s
 abbrev pub puttingSession : Register → ℕ → Session → Register
 puttingSession r s x = withSessions r (set (r .sessions) s x)
 
-unfoldable pub openRuling : Register → (s user : ℕ) → Origin → (hour place device : ℕ) → Ruling Register
-openRuling r s user o hour place device =
+unfoldable pub openRuling : Register → (s user : ℕ) → Origin → Context → Ruling Register
+openRuling r s user o at =
     into (puttingSession (withCapabilities r (used (r .capabilities) o)) s)
-    (openingSession (r .clock) (r .enrolled) (r .count) (session r s) (partyOf r o) (termsOf r o) s user o hour place device)
+    (openingSession (r .clock) (r .enrolled) (r .count) (session r s) (partyOf r o) (termsOf r o) s user o at)
 
 abbrev pub permitTests : Register → Origin → (user permission : ℕ) → List Bool
 permitTests r o user p = permitting (r .clock) (partyOf r o) (termsOf r o) user p

@@ -7,62 +7,99 @@ use Rattle.model.specs.declared.Capability.{Capability}
 use Rattle.model.specs.declared.Session.{Session}
 use Rattle.model.specs.declared.Register.{Register}
 
+-- ---- a capability: what calls change of it, in the order of its fields; the rest is as create made it
+
+abbrev renewed : Capability → (permissions lent holders limit uses creations hops : ℕ) → Bool → Capability
+renewed c permissions lent holders limit uses creations hops revoked =
+    record {
+      origin = c .origin;
+      creator = c .creator;
+      permissions = permissions;
+      lent = lent;
+      holders = holders;
+      first = c .first;
+      last = c .last;
+      «use_limit» = limit;
+      uses = uses;
+      «creation_limit» = c .«creation_limit»;
+      creations = creations;
+      «hop_limit» = c .«hop_limit»;
+      hops = hops;
+      hours = c .hours;
+      places = c .places;
+      devices = c .devices;
+      revoked = revoked;
+    }
+
 abbrev pub withPermissions : Capability → ℕ → Capability
-withPermissions c p =
-    record { origin = c .origin; creator = c .creator; permissions = p; lent = c .lent; holders = c .holders; first = c .first; last = c .last; «use_limit» = c .«use_limit»; uses = c .uses; «creation_limit» = c .«creation_limit»; creations = c .creations; «hop_limit» = c .«hop_limit»; hops = c .hops; hours = c .hours; places = c .places; devices = c .devices; revoked = c .revoked }
+withPermissions c p = renewed c p (c .lent) (c .holders) (c .«use_limit») (c .uses) (c .creations) (c .hops) (c .revoked)
 
 abbrev pub withLent : Capability → ℕ → Capability
-withLent c m =
-    record { origin = c .origin; creator = c .creator; permissions = c .permissions; lent = m; holders = c .holders; first = c .first; last = c .last; «use_limit» = c .«use_limit»; uses = c .uses; «creation_limit» = c .«creation_limit»; creations = c .creations; «hop_limit» = c .«hop_limit»; hops = c .hops; hours = c .hours; places = c .places; devices = c .devices; revoked = c .revoked }
+withLent c m = renewed c (c .permissions) m (c .holders) (c .«use_limit») (c .uses) (c .creations) (c .hops) (c .revoked)
 
 abbrev pub withHolders : Capability → ℕ → ℕ → Capability
-withHolders c m n =
-    record { origin = c .origin; creator = c .creator; permissions = c .permissions; lent = c .lent; holders = m; first = c .first; last = c .last; «use_limit» = c .«use_limit»; uses = c .uses; «creation_limit» = c .«creation_limit»; creations = c .creations; «hop_limit» = c .«hop_limit»; hops = n; hours = c .hours; places = c .places; devices = c .devices; revoked = c .revoked }
+withHolders c m n = renewed c (c .permissions) (c .lent) m (c .«use_limit») (c .uses) (c .creations) n (c .revoked)
 
 abbrev pub withUseLimit : Capability → ℕ → Capability
-withUseLimit c n =
-    record { origin = c .origin; creator = c .creator; permissions = c .permissions; lent = c .lent; holders = c .holders; first = c .first; last = c .last; «use_limit» = n; uses = c .uses; «creation_limit» = c .«creation_limit»; creations = c .creations; «hop_limit» = c .«hop_limit»; hops = c .hops; hours = c .hours; places = c .places; devices = c .devices; revoked = c .revoked }
+withUseLimit c n = renewed c (c .permissions) (c .lent) (c .holders) n (c .uses) (c .creations) (c .hops) (c .revoked)
 
 abbrev pub withUses : Capability → ℕ → Capability
-withUses c n =
-    record { origin = c .origin; creator = c .creator; permissions = c .permissions; lent = c .lent; holders = c .holders; first = c .first; last = c .last; «use_limit» = c .«use_limit»; uses = n; «creation_limit» = c .«creation_limit»; creations = c .creations; «hop_limit» = c .«hop_limit»; hops = c .hops; hours = c .hours; places = c .places; devices = c .devices; revoked = c .revoked }
+withUses c n = renewed c (c .permissions) (c .lent) (c .holders) (c .«use_limit») n (c .creations) (c .hops) (c .revoked)
 
 abbrev pub withCreations : Capability → ℕ → Capability
-withCreations c n =
-    record { origin = c .origin; creator = c .creator; permissions = c .permissions; lent = c .lent; holders = c .holders; first = c .first; last = c .last; «use_limit» = c .«use_limit»; uses = c .uses; «creation_limit» = c .«creation_limit»; creations = n; «hop_limit» = c .«hop_limit»; hops = c .hops; hours = c .hours; places = c .places; devices = c .devices; revoked = c .revoked }
+withCreations c n = renewed c (c .permissions) (c .lent) (c .holders) (c .«use_limit») (c .uses) n (c .hops) (c .revoked)
 
 abbrev pub withRevoked : Capability → Bool → Capability
-withRevoked c b =
-    record { origin = c .origin; creator = c .creator; permissions = c .permissions; lent = c .lent; holders = c .holders; first = c .first; last = c .last; «use_limit» = c .«use_limit»; uses = c .uses; «creation_limit» = c .«creation_limit»; creations = c .creations; «hop_limit» = c .«hop_limit»; hops = c .hops; hours = c .hours; places = c .places; devices = c .devices; revoked = b }
+withRevoked c b = renewed c (c .permissions) (c .lent) (c .holders) (c .«use_limit») (c .uses) (c .creations) (c .hops) b
+
+-- ---- a role: its permissions and its appointed users change
+
+abbrev renewedRole : Role → (permissions appointed : ℕ) → Role
+renewedRole x permissions appointed =
+    record {
+      founded = x .founded;
+      domain = x .domain;
+      permissions = permissions;
+      hours = x .hours;
+      places = x .places;
+      devices = x .devices;
+      appointed = appointed;
+    }
 
 abbrev pub withRolePermissions : Role → ℕ → Role
-withRolePermissions x p =
-    record { founded = x .founded; domain = x .domain; permissions = p; hours = x .hours; places = x .places; devices = x .devices; appointed = x .appointed }
+withRolePermissions x p = renewedRole x p (x .appointed)
 
 abbrev pub withAppointed : Role → ℕ → Role
-withAppointed x m =
-    record { founded = x .founded; domain = x .domain; permissions = x .permissions; hours = x .hours; places = x .places; devices = x .devices; appointed = m }
+withAppointed x m = renewedRole x (x .permissions) m
+
+-- ---- the register, field by field
+
+abbrev register : (clock enrolled : ℕ) → List ℕ → List Role → ℕ → List Capability → List Session → Register
+register clock enrolled domains roles count cs ss =
+    record {
+      clock = clock;
+      enrolled = enrolled;
+      domains = domains;
+      roles = roles;
+      count = count;
+      capabilities = cs;
+      sessions = ss;
+    }
 
 abbrev pub withClock : Register → ℕ → Register
-withClock r t =
-    record { clock = t; enrolled = r .enrolled; domains = r .domains; roles = r .roles; count = r .count; capabilities = r .capabilities; sessions = r .sessions }
+withClock r t = register t (r .enrolled) (r .domains) (r .roles) (r .count) (r .capabilities) (r .sessions)
 
 abbrev pub withUsers : Register → ℕ → List ℕ → Register
-withUsers r m ds =
-    record { clock = r .clock; enrolled = m; domains = ds; roles = r .roles; count = r .count; capabilities = r .capabilities; sessions = r .sessions }
+withUsers r m ds = register (r .clock) m ds (r .roles) (r .count) (r .capabilities) (r .sessions)
 
 abbrev pub withRoles : Register → List Role → Register
-withRoles r xs =
-    record { clock = r .clock; enrolled = r .enrolled; domains = r .domains; roles = xs; count = r .count; capabilities = r .capabilities; sessions = r .sessions }
+withRoles r xs = register (r .clock) (r .enrolled) (r .domains) xs (r .count) (r .capabilities) (r .sessions)
 
 abbrev pub withCapabilities : Register → List Capability → Register
-withCapabilities r cs =
-    record { clock = r .clock; enrolled = r .enrolled; domains = r .domains; roles = r .roles; count = r .count; capabilities = cs; sessions = r .sessions }
+withCapabilities r cs = register (r .clock) (r .enrolled) (r .domains) (r .roles) (r .count) cs (r .sessions)
 
 abbrev pub withCount : Register → ℕ → List Capability → Register
-withCount r n cs =
-    record { clock = r .clock; enrolled = r .enrolled; domains = r .domains; roles = r .roles; count = n; capabilities = cs; sessions = r .sessions }
+withCount r n cs = register (r .clock) (r .enrolled) (r .domains) (r .roles) n cs (r .sessions)
 
 abbrev pub withSessions : Register → List Session → Register
-withSessions r ss =
-    record { clock = r .clock; enrolled = r .enrolled; domains = r .domains; roles = r .roles; count = r .count; capabilities = r .capabilities; sessions = ss }
+withSessions r ss = register (r .clock) (r .enrolled) (r .domains) (r .roles) (r .count) (r .capabilities) ss

@@ -1,6 +1,6 @@
 -- Document 01, "What the shelf holds": a fresh register, authority, what an origin allows, life, context.
 -- A capability is the document's pass.
-use mathlib.Core.Bool.{Bool, true, false, _&&_}
+use mathlib.Core.Bool.{Bool, true, false}
 use mathlib.Core.List.{List, [], _∷_}
 use Prim.Native.Nat.{ℕ, _^_}
 use lib.Bits.{bitOr}
@@ -13,30 +13,54 @@ use Rattle.model.specs.declared.Origin.the-variants.{Role as ofRole, Cap
 use Rattle.model.specs.declared.Role.{Role}
 use Rattle.model.specs.declared.Capability.{Capability}
 use Rattle.model.specs.declared.Session.{Session}
+use Rattle.model.specs.declared.Context.{Context}
+use Rattle.model.specs.declared.Plan.{Plan}
 use Rattle.model.specs.declared.Register.{Register}
+
+-- ---- arguments that belong together: "hour place device"; "first last, use creation hop limits, hours places devices"
+
+abbrev pub contextOf : (hour place device : ℕ) → Context
+contextOf hour place device = record { hour = hour; place = place; device = device }
+
+abbrev pub planOf : (first last uses creations hops hours places devices : ℕ) → Plan
+planOf first last uses creations hops hours places devices =
+    record {
+      first = first;
+      last = last;
+      uses = uses;
+      creations = creations;
+      hops = hops;
+      hours = hours;
+      places = places;
+      devices = devices;
+    }
+
+-- the context of a session's opening
+abbrev pub openedIn : Session → Context
+openedIn s = contextOf (s .hour) (s .place) (s .device)
 
 -- ---- a capability with nothing in it yet
 
 -- create: "The new pass has .. no authority, no holder, counts 0"
-abbrev pub newCapability : (user : ℕ) (o : Origin) (first last uses creations hops hours places devices : ℕ) → Capability
-newCapability user o first last uses creations hops hours places devices =
+abbrev pub newCapability : (user : ℕ) → Origin → Plan → Capability
+newCapability user o plan =
     record {
       origin = o;
       creator = user;
       permissions = 0;
       lent = 0;
       holders = 0;
-      first = first;
-      last = last;
-      «use_limit» = uses;
+      first = plan .first;
+      last = plan .last;
+      «use_limit» = plan .uses;
       uses = 0;
-      «creation_limit» = creations;
+      «creation_limit» = plan .creations;
       creations = 0;
-      «hop_limit» = hops;
+      «hop_limit» = plan .hops;
       hops = 0;
-      hours = hours;
-      places = places;
-      devices = devices;
+      hours = plan .hours;
+      places = plan .places;
+      devices = plan .devices;
       revoked = false;
     }
 
@@ -47,7 +71,7 @@ blankRole =
     record { founded = false; domain = 0; permissions = 0; hours = 0; places = 0; devices = 0; appointed = 0 }
 
 abbrev pub blankCapability : Capability
-blankCapability = newCapability 0 (ofRole 0) 0 0 0 0 0 0 0 0
+blankCapability = newCapability 0 (ofRole 0) (planOf 0 0 0 0 0 0 0 0)
 
 abbrev pub blankSession : Session
 blankSession = record { active = false; user = 0; on = ofRole 0; hour = 0; place = 0; device = 0 }
@@ -79,11 +103,6 @@ sessionAt ss s = getD ss s blankSession
 abbrev pub originAt : List Capability → ℕ → Origin
 originAt cs n = (capabilityAt cs n) .origin
 
--- a role is founded, a capability has been created
-unfoldable pub exists : List Role → ℕ → Origin → Bool
-exists roles count (ofRole k) = (roleAt roles k) .founded
-exists roles count (ofCapability n) = ltb n count
-
 -- ---- an origin and what stands there: what a call asks of a role or of a capability, it asks of this
 
 pub data Party : Type 0 where
@@ -99,15 +118,22 @@ abbrev pub there : ℕ → Party → Bool
 there count (theRole k x) = x .founded
 there count (theCapability n c) = ltb n count
 
+unfoldable pub exists : List Role → ℕ → Origin → Bool
+exists roles count o = there count (party roles [] o)
+
 -- the user is appointed to the role, or holds the capability
 abbrev pub hasMember : Party → ℕ → Bool
 hasMember (theRole k x) user = has (x .appointed) user
 hasMember (theCapability n c) user = has (c .holders) user
 
--- "A life includes both its ends."; a role's is the whole time
+-- "A life includes both its ends."
+abbrev pub lifeTests : Capability → ℕ → List Bool
+lifeTests c tick = leb (c .first) tick ∷ leb tick (c .last) ∷ []
+
+-- a role's life is the whole time
 abbrev pub lives : Party → ℕ → Bool
 lives (theRole k x) tick = true
-lives (theCapability n c) tick = leb (c .first) tick && leb tick (c .last)
+lives (theCapability n c) tick = each (lifeTests c tick)
 
 -- uses, and creations, are below their limit; a role counts none
 abbrev pub mayUse : Party → Bool
@@ -187,6 +213,10 @@ partyTerms granted authority mayLend (theRole k x) =
     }
 partyTerms granted authority mayLend (theCapability n c) = termsWith (authority c) (mayLend (c .lent)) c
 
+-- the terms as far as they need no authority: life, limits, context and the revoked mark
+abbrev pub bareTerms : Party → Terms
+bareTerms y = partyTerms (λ k. 0) (λ c. 0) (λ m. m) y
+
 abbrev pub capabilityTerms : List Role → Capability → Terms
 capabilityTerms roles c = termsWith (authority roles c) (mayLend roles (c .lent)) c
 
@@ -223,12 +253,12 @@ abbrev pub inLife : List Capability → Origin → ℕ → Bool
 inLife cs o tick = lives (party [] cs o) tick
 
 -- "the hour (0 to 23), place and device (0 to 15)"
-unfoldable pub inContext : ℕ → ℕ → ℕ → Bool
-inContext hour place device = each (ltb hour 24 ∷ ltb place 16 ∷ ltb device 16 ∷ [])
+unfoldable pub inContext : Context → Bool
+inContext at = each (ltb (at .hour) 24 ∷ ltb (at .place) 16 ∷ ltb (at .device) 16 ∷ [])
 
 -- "A context is admitted when all three masks have its bit."
-abbrev pub admittedTests : Terms → ℕ → ℕ → ℕ → List Bool
-admittedTests t hour place device = has (t .hours) hour ∷ has (t .places) place ∷ has (t .devices) device ∷ []
+abbrev pub admittedTests : Terms → Context → List Bool
+admittedTests t at = has (t .hours) (at .hour) ∷ has (t .places) (at .place) ∷ has (t .devices) (at .device) ∷ []
 
-unfoldable pub admitted : Terms → ℕ → ℕ → ℕ → Bool
-admitted t hour place device = each (admittedTests t hour place device)
+unfoldable pub admitted : Terms → Context → Bool
+admitted t at = each (admittedTests t at)

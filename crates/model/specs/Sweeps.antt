@@ -1,26 +1,22 @@
 -- Revoke and amend as one rising sweep each, which is how the program does them; `proofs/` shows that they come to the same.
-use mathlib.Core.Bool.{Bool, false, cond, _||_}
-use mathlib.Core.List.{List}
+use mathlib.Core.Bool.{Bool, cond, _||_}
+use mathlib.Core.List.{List, []}
 use Prim.Native.Nat.{ℕ, min}
 use lib.Dec.{eqb}
 use Rattle.model.specs.declared.Origin.{Origin}
-use Rattle.model.specs.declared.Origin.the-variants.{Role as ofRole, Capability as ofCapability}
 use Rattle.model.specs.declared.Capability.{Capability}
-use Rattle.model.specs.State.{capabilityAt}
+use Rattle.model.specs.State.{party, bareTerms}
 use Rattle.model.specs.Setters.{withRevoked, withUseLimit}
 
 abbrev pub originRevoked : List Capability → Origin → Bool
-originRevoked cs (ofRole k) = false
-originRevoked cs (ofCapability k) = (capabilityAt cs k) .revoked
+originRevoked cs o = (bareTerms (party [] cs o)) .revoked
 
 -- revoked, or the capability named, or derived from one that is revoked by now
 abbrev pub markOne : ℕ → ℕ → List Capability → Capability → Capability
 markOne n i cs c = withRevoked c (c .revoked || (eqb i n || originRevoked cs (c .origin)))
 
--- a role's limit is 65,535
 abbrev pub originLimit : List Capability → Origin → ℕ
-originLimit cs (ofRole k) = 65535
-originLimit cs (ofCapability k) = (capabilityAt cs k) .«use_limit»
+originLimit cs o = (bareTerms (party [] cs o)) .use-limit
 
 -- the capability named gets the limit; any other is cut to what its origin has by now
 abbrev pub limitOne : ℕ → ℕ → ℕ → List Capability → Capability → Capability

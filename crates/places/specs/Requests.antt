@@ -12,10 +12,11 @@ use Rattle.model.specs.declared.Capability.{Capability}
 use Rattle.model.specs.declared.Session.{Session}
 use Rattle.model.specs.declared.Register.{Register}
 use Rattle.model.specs.State.{capabilityAt, sessionAt}
+use Rattle.origins.specs.Numbers.{roleHeld, capabilityHeld}
 use Rattle.slots.specs.declared.Slots.{Slots}
 use Rattle.slots.specs.Slots.{Places}
 use Rattle.places.specs.declared.Follow.{Follow}
-use Rattle.places.specs.declared.Follow.the-variants.{Nothing, Origin as TheOrigin, Session as TheSession, Count}
+use Rattle.places.specs.declared.Follow.the-variants.{Nothing, Role as TheRole, Origin as TheOrigin, Session as TheSession, Count}
 use Rattle.places.specs.declared.Names.{Names}
 
 abbrev pub namesWith : (user role parent capability session : ℕ) → Follow → Names
@@ -32,10 +33,10 @@ capabilityIn (nameCapability n) = n
 
 abbrev pub namesOf : LocalRequest → Names
 namesOf (Enrol user domain) = namesWith user 0 0 0 0 Nothing
-namesOf (Found role domain hours places devices) = namesWith 0 role 0 0 0 Nothing
-namesOf (Grant role permission) = namesWith 0 role 0 0 0 Nothing
-namesOf (Appoint user role) = namesWith user role 0 0 0 Nothing
-namesOf (Dismiss user role) = namesWith user role 0 0 0 Nothing
+namesOf (Found role domain hours places devices) = namesWith 0 role 0 0 0 TheRole
+namesOf (Grant role permission) = namesWith 0 role 0 0 0 TheRole
+namesOf (Appoint user role) = namesWith user role 0 0 0 TheRole
+namesOf (Dismiss user role) = namesWith user role 0 0 0 TheRole
 namesOf (Clock tick) = namesWith 0 0 0 0 0 Nothing
 namesOf (Create user origin at plan) = namesWith 0 (roleIn origin) (capabilityIn origin) 0 0 Count
 namesOf (Allow user capability permissions) = namesWith 0 0 0 capability 0 TheOrigin
@@ -45,31 +46,34 @@ namesOf (Open session user on at) = namesWith 0 (roleIn on) 0 (capabilityIn on) 
 namesOf (Check session permission) = namesWith 0 0 0 0 session TheSession
 namesOf (Close session) = namesWith 0 0 0 0 session Nothing
 
-abbrev pub roleHeld : Origin → ℕ
-roleHeld (ofRole k) = k
-roleHeld (ofCapability n) = 0
-
-abbrev pub capabilityHeld : Origin → ℕ
-capabilityHeld (ofRole k) = 0
-capabilityHeld (ofCapability n) = n
-
 abbrev pub capabilityPlace : Follow → ℕ → Origin → ℕ → ℕ
 capabilityPlace Nothing named on count = named
+capabilityPlace TheRole named on count = named
 capabilityPlace TheOrigin named on count = named
 capabilityPlace TheSession named on count = capabilityHeld on
 capabilityPlace Count named on count = count
 
 abbrev pub rolePlace : Follow → ℕ → Origin → Origin → ℕ
 rolePlace Nothing named on origin = named
+rolePlace TheRole named on origin = named
 rolePlace TheOrigin named on origin = roleHeld origin
 rolePlace TheSession named on origin = roleHeld on
 rolePlace Count named on origin = named
 
 abbrev pub parentPlace : Follow → ℕ → Origin → ℕ
 parentPlace Nothing named origin = named
+parentPlace TheRole named origin = named
 parentPlace TheOrigin named origin = capabilityHeld origin
 parentPlace TheSession named origin = named
 parentPlace Count named origin = named
+
+-- the request may change the role that it names
+abbrev pub changesRole : Follow → Bool
+changesRole Nothing = false
+changesRole TheRole = true
+changesRole TheOrigin = false
+changesRole TheSession = false
+changesRole Count = false
 
 -- where the elements of a request stand in a register
 abbrev pub placesIn : Register → Names → Places

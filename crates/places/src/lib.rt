@@ -1,19 +1,22 @@
 // Where the elements stand that a request names: numbers from the request, or followed from what was read.
 ghost use mathlib.Core.Path.{_≡_};
 ghost use Prim.Native.Nat.{_%_, _<_};
-ghost use Rattle.places.specs.Requests.{namesWith, roleIn, capabilityIn, namesOf, roleHeld, capabilityHeld, capabilityPlace, rolePlace, parentPlace, seenSlots};
+ghost use Rattle.places.specs.Requests.{namesWith, roleIn, capabilityIn, namesOf, capabilityPlace, rolePlace, parentPlace, changesRole, seenSlots};
 use model::Capability;
 use model::LocalRequest;
 use model::Named;
 use model::Origin;
 use model::Role;
 use model::Session;
+use origins::numbers::capability_held;
+use origins::numbers::role_held;
 use slots::Slots;
 
-// What the places that a request leaves open are followed from: nothing, the capability's origin, what the session is on,
-// or the count, where the new capability goes.
+// What the places that a request leaves open are followed from: nothing, also where the role named may change; the capability's
+// origin; what the session is on; or the count, where the new capability goes.
 pub enum Follow {
     Nothing,
+    Role,
     Origin,
     Session,
     Count,
@@ -73,10 +76,10 @@ pub fn names_of(q: LocalRequest) -> Names
 {
     match q {
         LocalRequest::Enrol(user, _) => named_by(user, 0, 0, 0, 0, Follow::Nothing),
-        LocalRequest::Found(role, _, _, _, _) => named_by(0, role, 0, 0, 0, Follow::Nothing),
-        LocalRequest::Grant(role, _) => named_by(0, role, 0, 0, 0, Follow::Nothing),
-        LocalRequest::Appoint(user, role) => named_by(user, role, 0, 0, 0, Follow::Nothing),
-        LocalRequest::Dismiss(user, role) => named_by(user, role, 0, 0, 0, Follow::Nothing),
+        LocalRequest::Found(role, _, _, _, _) => named_by(0, role, 0, 0, 0, Follow::Role),
+        LocalRequest::Grant(role, _) => named_by(0, role, 0, 0, 0, Follow::Role),
+        LocalRequest::Appoint(user, role) => named_by(user, role, 0, 0, 0, Follow::Role),
+        LocalRequest::Dismiss(user, role) => named_by(user, role, 0, 0, 0, Follow::Role),
         LocalRequest::Clock(_) => named_by(0, 0, 0, 0, 0, Follow::Nothing),
         LocalRequest::Create(_, o, _, _) => named_by(
             0,
@@ -102,32 +105,14 @@ pub fn names_of(q: LocalRequest) -> Names
     }
 }
 
-// The number of the role, or of the capability, that an element holds; 0 if it is the other.
-pub fn role_held(o: Origin) -> u32
-    ensures { λ z. ⌜ z ≡ roleHeld o ⌝ }
-{
-    match o {
-        Origin::Role(k) => k as u32,
-        Origin::Capability(_) => 0,
-    }
-}
-
-pub fn capability_held(o: Origin) -> u32
-    ensures { λ z. ⌜ z ≡ capabilityHeld o ⌝ }
-{
-    match o {
-        Origin::Role(_) => 0,
-        Origin::Capability(n) => n as u32,
-    }
-}
-
 fn capability_place(follow: Follow, named: u32, on: Origin, count: u16) -> u32
     ensures { λ z. ⌜ z ≡ capabilityPlace follow named on count ⌝ }
 {
     match follow {
         Follow::Nothing => named,
+        Follow::Role => named,
         Follow::Origin => named,
-        Follow::Session => capability_held(on),
+        Follow::Session => capability_held(on) as u32,
         Follow::Count => count as u32,
     }
 }
@@ -137,8 +122,9 @@ fn role_place(follow: Follow, named: u32, on: Origin, origin: Origin) -> u32
 {
     match follow {
         Follow::Nothing => named,
-        Follow::Origin => role_held(origin),
-        Follow::Session => role_held(on),
+        Follow::Role => named,
+        Follow::Origin => role_held(origin) as u32,
+        Follow::Session => role_held(on) as u32,
         Follow::Count => named,
     }
 }
@@ -148,9 +134,24 @@ fn parent_place(follow: Follow, named: u32, origin: Origin) -> u32
 {
     match follow {
         Follow::Nothing => named,
-        Follow::Origin => capability_held(origin),
+        Follow::Role => named,
+        Follow::Origin => capability_held(origin) as u32,
         Follow::Session => named,
         Follow::Count => named,
+    }
+}
+
+// The request may change the role that it names, so that what is known of all roles is to be made anew.
+pub fn changes_role(m: Names) -> bool
+    ensures { λ z. ⌜ z ≡ changesRole (m .follow) ⌝ }
+{
+    let follow = m.follow;
+    match follow {
+        Follow::Nothing => false,
+        Follow::Role => true,
+        Follow::Origin => false,
+        Follow::Session => false,
+        Follow::Count => false,
     }
 }
 

@@ -13,13 +13,10 @@ use lib.Seq.{drop-cons}
 use Rattle.buffers.proofs.Parts.{placed, placed-append, tail-back, length-tail}
 use Rattle.masks.specs.Bytes.{front, split}
 use Rattle.masks.proofs.Truth.{T→true, true→T}
-use Rattle.model.specs.declared.Origin.{Origin}
-use Rattle.model.specs.declared.Origin.the-variants.{Role as ofRole, Capability as ofCapability}
 use Rattle.model.specs.declared.Register.{Register}
 use Rattle.model.specs.declared.Request.{Request}
 use Rattle.model.specs.declared.Parsed.{Parsed}
 use Rattle.model.specs.declared.Parsed.the-variants.{Line, NoRequest}
-use Rattle.model.specs.State.{roleAt, capabilityAt, sessionAt}
 use Rattle.model.specs.Rules.{wellFormed}
 use Rattle.model.specs.Rulings.{Outcome, refused, Effect}
 use Rattle.model.specs.Calls.{Call, check, settled, step}
@@ -33,11 +30,6 @@ use Rattle.text.specs.Parts.{before}
 use Rattle.player.proofs.Transcripts.{transcript-line}
 use Rattle.answers.specs.Writing.{printedInto, filled}
 use Rattle.answers.proofs.WriteLaws.{into-room, filled-room}
-use Rattle.slots.proofs.TermLaws.{Column}
-use Rattle.places.specs.Requests.{roleHeld, capabilityHeld}
-use Rattle.slots.specs.Terms.{OnPlaced}
-use Rattle.sessions.specs.Sessions.{checkAnswer}
-use Rattle.sessions.proofs.Commits.{check-answered}
 use Rattle.player.specs.Play.{journalLength, journalBuffer}
 
 -- ---- one line
@@ -59,20 +51,6 @@ line-says line q e p g = sym e ∙ ap parsedCall g
 pub line-done : (r : Register) (line : List ℕ) (c : Call) (z : Effect Register) → parse line ≡ some c → T (wellFormed r) → z ≡ settled r c → z ≡ lineEffect r line
 unfolding lineEffect
 line-done r line c z e k h = h ∙ sym (step-settled r c k) ∙ ap (requested r) (sym e)
-
--- a check, by the session and what it is on; x and y are the role and the capability of that
-check-placed : (o : Origin) (n x y : ℕ) → x ≡ roleHeld o → y ≡ capabilityHeld o
-    → OnPlaced (record { user = 0; role = x % 32; parent = 0; capability = y % 256; session = n % 64 }) o
-check-placed (ofRole k) n x y a b = ap (λ (z : ℕ). z % 32) a
-check-placed (ofCapability k) n x y a b = ap (λ (z : ℕ). z % 256) b
-
-pub check-done : (r : Register) (permissions : List ℕ) (n q x y : ℕ) (o : Outcome) → T (wellFormed r) → Column permissions (r .roles)
-    → x ≡ roleHeld ((sessionAt (r .sessions) (n % 64)) .on) → y ≡ capabilityHeld ((sessionAt (r .sessions) (n % 64)) .on)
-    → o ≡ checkAnswer (r .clock) (sessionAt (r .sessions) (n % 64)) (roleAt (r .roles) (x % 32)) (capabilityAt (r .capabilities) (y % 256)) permissions n q
-    → record { answer = o; after = r } ≡ settled r (check n q)
-check-done r permissions n q x y o k column a b e =
-    ap (λ (z : Outcome). record { answer = z; after = r }) e
-    ∙ check-answered r (record { user = 0; role = x % 32; parent = 0; capability = y % 256; session = n % 64 }) permissions n q k column refl (check-placed ((sessionAt (r .sessions) (n % 64)) .on) n x y a b)
 
 -- ---- the test of the rules says the same after a line
 

@@ -13,21 +13,22 @@ use dispatch::order_of;
 use model::Answer;
 use model::Refusal;
 use model::Register;
+use origins::authority::authorities_of;
+use origins::numbers::capability_held;
+use origins::numbers::role_held;
 use places::capability_at;
-use places::capability_held;
+use places::changes_role;
 use places::names_of;
 use places::parent_at;
 use places::role_at;
-use places::role_held;
 use places::seen;
 use places::session_at;
 use places::user_at;
-use revocation::orders::Order;
 use rules::well_formed;
 use sessions::answer_check;
-use sweeps::permissions_of;
 use sweeps::sweep_all;
 use text::parts::count_before;
+use tree::orders::Order;
 
 mod step;
 
@@ -39,7 +40,7 @@ fn play(start: Register, input: &[u8], out: &mut [u8]) -> usize
 {
     let formed = well_formed(start);
     let roles = start.roles;
-    let mut permissions = permissions_of(roles);
+    let mut authorities = authorities_of(roles);
     let mut r = start;
     let mut at: usize = 0;
     let mut to: usize = 0;
@@ -59,8 +60,8 @@ fn play(start: Register, input: &[u8], out: &mut [u8]) -> usize
                 let s = r.sessions[(number % 64) as usize];
                 let on = s.on;
                 let x = r.roles[(role_held(on) % 32) as usize];
-                let c = r.capabilities[(capability_held(on) % 256) as usize];
-                let answer = answer_check(r.clock, s, x, c, &permissions, number, permission);
+                let c = r.capabilities[capability_held(on) as usize];
+                let answer = answer_check(r.clock, s, x, c, &authorities, number, permission);
                 let n = print(&mut out[to..], answer);
                 to += n;
             }
@@ -78,7 +79,7 @@ fn play(start: Register, input: &[u8], out: &mut [u8]) -> usize
                         to += n;
                         let next = reply.register;
                         let roles = next.roles;
-                        permissions = permissions_of(roles);
+                        authorities = authorities_of(roles);
                         r = next;
                     }
                 }
@@ -95,7 +96,7 @@ fn play(start: Register, input: &[u8], out: &mut [u8]) -> usize
                 let p = r.capabilities[pn];
                 let un = user_at(m);
                 let v = seen(r.clock, r.enrolled, r.count, r.domains[un], x, p, c, s);
-                let d = decide(v, &permissions, q);
+                let d = decide(v, &authorities, q);
                 let answer = d.answer;
                 let n = print(&mut out[to..], answer);
                 to += n;
@@ -105,7 +106,6 @@ fn play(start: Register, input: &[u8], out: &mut [u8]) -> usize
                 r.count = w.count;
                 r.domains[un] = w.domain;
                 let x = w.role;
-                permissions[rn] = x.permissions;
                 r.roles[rn] = x;
                 let x = w.parent;
                 r.capabilities[pn] = x;
@@ -113,6 +113,10 @@ fn play(start: Register, input: &[u8], out: &mut [u8]) -> usize
                 r.capabilities[cn] = x;
                 let x = w.session;
                 r.sessions[sn] = x;
+                if changes_role(m) {
+                    let roles = r.roles;
+                    authorities = authorities_of(roles);
+                }
             }
         }
     }

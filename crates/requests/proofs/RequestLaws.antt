@@ -8,7 +8,7 @@ use borrow.Author.Tests.{not-true, not-false}
 use lib.Dec.{lit<}
 use lib.ListN.{length, take, drop}
 use lib.Seq.{getD-take}
-use Rattle.model.specs.Lines.{andThen, numeral, numbers, nth, originIn, createIn, openIn, amendIn}
+use Rattle.model.specs.Lines.{andThen, numeral, numbers, nth, contextIn, planIn, originIn, createIn, openIn, amendIn}
 use Rattle.model.specs.Calls.{Call, create, opening, amend}
 use Rattle.model.specs.declared.Origin.{Origin}
 use Rattle.model.specs.Requests.{localCall, treeCall}
@@ -27,7 +27,6 @@ use Rattle.text.specs.declared.arguments.Target.{Target}
 use Rattle.text.specs.declared.arguments.Changing.{Changing}
 use Rattle.text.specs.declared.arguments.Changing.the-variants.{By, NoChange}
 use Rattle.text.proofs.NumberLaws.{number-stop, number-then, two-stop, two-then}
-use Rattle.requests.specs.Arguments.{contextIn, planIn}
 
 none-after : {A B : Type 0} (d : Option A) → none ≡ andThen {B = B} d (λ a. none)
 none-after none = refl
@@ -49,10 +48,10 @@ target-then kind (some v) f = cases (originIn kind (nth v 0))
     cases (some on) = refl
 
 abbrev created : ℕ → Origin → List ℕ → Call
-created u on v = create u on (nth v 1) (nth v 2) (nth v 3) (nth v 4) (nth v 5) (nth v 6) (nth v 7) (nth v 8) (nth v 9) (nth v 10) (nth v 11)
+created u on v = create u on (contextIn v) (planIn v)
 
 abbrev opened : ℕ → ℕ → Origin → List ℕ → Call
-opened s u on v = opening s u on (nth v 1) (nth v 2) (nth v 3)
+opened s u on v = opening s u on (contextIn v)
 
 -- no more than 12 numbers, or 4, matter to them
 created-take : (u : ℕ) (on : Origin) (v : List ℕ) → created u on (take 12 v) ≡ created u on v

@@ -1,3 +1,2 @@
--- The spelling of the request words, and what their numbers stand for; the definitions of lines are those of `model`.
+-- The spelling of the request words; the definitions of lines are those of `model`.
 pub mod Spelling
-pub mod Arguments

@@ -1,9 +1,8 @@
 // The parser of requests: a line is a word and exactly its arguments.
 ghost use mathlib.Core.Path.{_≡_};
-ghost use Rattle.model.specs.Lines.{createIn, openIn, amendIn, parse as parsed};
+ghost use Rattle.model.specs.Lines.{contextIn, planIn, createIn, openIn, amendIn, parse as parsed};
 ghost use Rattle.model.specs.Requests.{callOf, parsedCall};
 ghost use Rattle.text.specs.Parts.{after};
-ghost use Rattle.requests.specs.Arguments.{contextIn, planIn};
 ghost use Rattle.requests.specs.Spelling.{asks, arity as arityOf, oneCall, twoCall, threeCall, plainCall};
 ghost use Rattle.requests.specs.declared.words.Word.the-variants.{Numbers as onlyNumbers};
 use crate::words::One;

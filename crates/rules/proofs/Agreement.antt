@@ -5,48 +5,38 @@ use mathlib.Core.List.{List, [], _∷_}
 use Prim.Native.Nat.{ℕ, _%_, _^_, _<_, _≤_}
 use native.Mathlib.Nat.{mod-eq-of-lt}
 use borrow.Author.Tests.{lt-ltb, le-ltb, eq-eqb}
-use lib.Bits.{bitOr}
 use lib.Dec.{T, eqb, leb, ltb, ltb→lt, leb→le}
 use lib.ListN.{getD, length}
-use Rattle.masks.specs.Masks.{has, within, joined}
+use Rattle.masks.specs.Masks.{has, within}
 use Rattle.masks.specs.Tests.{each, allBelow, allFrom}
-use Rattle.masks.proofs.Truth.{Each, each-at}
+use Rattle.masks.proofs.Truth.{Each, each-at, fromLeft, left-each}
 use Rattle.model.specs.declared.Origin.{Origin}
 use Rattle.model.specs.declared.Origin.the-variants.{Role as ofRole, Capability as ofCapability}
 use Rattle.model.specs.declared.Role.{Role}
 use Rattle.model.specs.declared.Capability.{Capability}
 use Rattle.model.specs.declared.Session.{Session}
 use Rattle.model.specs.declared.Register.{Register}
-use Rattle.model.specs.State.{there, Terms, terms, claims, below, exists, authority, lentAuthority, roleAuthority, admitted, inContext, roleAt, capabilityAt, sessionAt, blankRole, blankCapability, blankSession}
+use Rattle.model.specs.State.{party, there, Terms, terms, claims, below, exists, openedIn, admitted, inContext, roleAt, capabilityAt, originAt, sessionAt, blankRole, blankCapability, blankSession}
 use Rattle.model.specs.Lineage.{children}
 use Rattle.model.specs.Rules.{isOrigin, isUser, isDomain, bits, userKeeps, roleBlank, sameDomain, roleKeeps, capabilityBlank, rangeTests, inRange, allFounded, earlier, ownKeeps, capabilityKeeps, placeKeeps, sessionBlank, sessionKeeps, wellFormed}
-use Rattle.parties.specs.Terms.{partyIn, slotTerms}
-use Rattle.parties.proofs.Laws.{role-terms, capability-terms}
-use Rattle.entries.specs.Limits.{numberOf, roleKeepsWith, placeWith, sessionKeepsWith}
-use Rattle.entries.proofs.Laws.{fromLeft, left-each}
+use Rattle.origins.specs.Authority.{grantedBy}
+use Rattle.origins.specs.Numbers.{Placed}
+use Rattle.origins.specs.Terms.{partyIn, slotTerms}
+use Rattle.origins.proofs.Laws.{Column, placed-party, placed-terms, placed-admits}
+use Rattle.entries.specs.Limits.{roleKeepsWith, placeWith, sessionKeepsWith}
 use Rattle.rules.specs.Columns.{masked, isFounded, inDomain, BlankFrom}
-use Rattle.masks.proofs.JoinLaws.{joined-same}
 use Rattle.rules.proofs.Laws.{all-below, all-rest, each-under, within-masked}
 
--- ---- origins: a role's number is below 32
+-- ---- origins
 
-there-exists : (roles : List Role) (count : ℕ) (p : Capability) (o : Origin) (k : ℕ) → k ≡ numberOf o → T (isOrigin o)
-    → there count (partyIn o (roleAt roles (k % 32)) p) ≡ exists roles count o
+there-exists : (roles : List Role) (cs : List Capability) (count : ℕ) (o : Origin) (i j : ℕ) → T (isOrigin o) → Placed o i j
+    → there count (partyIn o (roleAt roles i) (capabilityAt cs j)) ≡ exists roles count o
 unfolding exists
-there-exists roles count p (ofRole j) k e h = rw (e, mod-eq-of-lt (ltb→lt j 32 h))
-there-exists roles count p (ofCapability j) k e h = refl
-
-limits-terms : (roles : List Role) (cs : List Capability) (o : Origin) (k lent : ℕ) → k ≡ numberOf o → T (isOrigin o)
-    → lent ≡ lentAuthority roles ((capabilityAt cs k) .lent)
-    → slotTerms o (roleAt roles (k % 32)) (capabilityAt cs k) lent ≡ terms roles cs o
-limits-terms roles cs (ofRole j) k lent e h f = rw (e, mod-eq-of-lt (ltb→lt j 32 h)) (role-terms roles cs j _ _ (ltb→lt j 32 h))
-limits-terms roles cs (ofCapability j) k lent e h f = rw e (capability-terms roles cs j _ _ (rw e at f))
-
-limits-admit : (roles : List Role) (cs : List Capability) (o : Origin) (k hour place device : ℕ) → k ≡ numberOf o → T (isOrigin o)
-    → admitted (slotTerms o (roleAt roles (k % 32)) (capabilityAt cs k) 0) hour place device ≡ admitted (terms roles cs o) hour place device
-unfolding admitted slotTerms terms
-limits-admit roles cs (ofRole j) k hour place device e h = rw (e, mod-eq-of-lt (ltb→lt j 32 h))
-limits-admit roles cs (ofCapability j) k hour place device e h = rw e
+there-exists roles cs count o i j ranged e = ap (there count) (placed-party roles cs o i j ranged e) ∙ same o
+  where
+    same : (x : Origin) → there count (party roles cs x) ≡ exists roles count x
+    same (ofRole k) = refl
+    same (ofCapability n) = refl
 
 -- ---- a role; users has the users of each domain
 
@@ -76,25 +66,22 @@ role-agrees enrolled domains users k x column =
 
 -- ---- a capability
 
-pub place-agrees : (enrolled : ℕ) (roles : List Role) (count : ℕ) (cs : List Capability) (n k founded lent made : ℕ) (f : ℕ → ℕ) (known : Bool) (u : Terms) → k ≡ numberOf ((capabilityAt cs n) .origin)
+pub place-agrees : (enrolled : ℕ) (roles : List Role) (count : ℕ) (cs : List Capability) (n i j founded made : ℕ) (column : List ℕ) (known : Bool) (u : Terms)
+    → Placed (originAt cs n) i j
     → founded ≡ masked (isFounded roles) 32
-    → ((j : ℕ) → j < 32 → f j ≡ roleAuthority roles j)
-    → lent ≡ joined f ((capabilityAt cs k) .lent) 32
-    → known ≡ there count (partyIn ((capabilityAt cs n) .origin) (roleAt roles (k % 32)) (capabilityAt cs k))
-    → u ≡ slotTerms ((capabilityAt cs n) .origin) (roleAt roles (k % 32)) (capabilityAt cs k) lent
+    → Column column roles
+    → known ≡ there count (partyIn (originAt cs n) (roleAt roles i) (capabilityAt cs j))
+    → u ≡ slotTerms (originAt cs n) (roleAt roles i) (capabilityAt cs j) (grantedBy column (originAt cs n) (capabilityAt cs j))
     → made ≡ children count cs n
     → placeWith enrolled founded count n known u made (capabilityAt cs n) ≡ placeKeeps enrolled roles count cs n (capabilityAt cs n)
-unfolding placeWith placeKeeps capabilityKeeps inRange allFounded lentAuthority
-place-agrees enrolled roles count cs n k founded lent made f known u at-k at-founded column at-lent at-known at-u at-made =
+unfolding placeWith placeKeeps capabilityKeeps inRange allFounded
+place-agrees enrolled roles count cs n i j founded made column known u placed at-founded at-column at-known at-u at-made =
     ap
     (λ (b : Bool). cond (ltb n count) b (capabilityBlank c))
     (each-under (inRange c ∷ []) (rest (within (c .lent) founded) known u made) (rest (allFounded roles (c .lent)) (exists roles count (c .origin)) (terms roles cs (c .origin)) (children count cs n)) agree)
   where
     c : Capability
     c = capabilityAt cs n
-
-    p : Capability
-    p = capabilityAt cs k
 
     rest : Bool → Bool → Terms → ℕ → List Bool
     rest a b t m =
@@ -104,32 +91,35 @@ place-agrees enrolled roles count cs n k founded lent made f known u at-k at-fou
         → each (rest (within (c .lent) founded) known u made) ≡ each (rest (allFounded roles (c .lent)) (exists roles count (c .origin)) (terms roles cs (c .origin)) (children count cs n))
     agree h =
         let named : T (isOrigin (c .origin)) = each-at (rangeTests c) (h .0) 0 in
-        let carried : lent ≡ lentAuthority roles (p .lent) = at-lent ∙ joined-same f (roleAuthority roles) (p .lent) 32 column in
         ap₂ (λ (a b : Bool). each (rest a b u made))
         (ap (within (c .lent)) at-founded ∙ within-masked (isFounded roles) 32 (c .lent) (ltb→lt _ _ (each-at (rangeTests c) (h .0) 3)))
-        (at-known ∙ there-exists roles count p (c .origin) k at-k named)
+        (at-known ∙ there-exists roles cs count (c .origin) i j named placed)
         ∙ ap₂ (λ (t : Terms) (m : ℕ). each (rest (allFounded roles (c .lent)) (exists roles count (c .origin)) t m))
-        (at-u ∙ limits-terms roles cs (c .origin) k _ at-k named carried)
+        (at-u ∙ placed-terms column roles at-column cs (c .origin) _ _ named placed)
         at-made
 
 -- ---- a session
 
-pub session-agrees : (enrolled : ℕ) (roles : List Role) (count : ℕ) (cs : List Capability) (i k : ℕ) (s : Session) (known : Bool) (u : Terms) → k ≡ numberOf (s .on)
-    → known ≡ there count (partyIn (s .on) (roleAt roles (k % 32)) (capabilityAt cs k))
-    → u ≡ slotTerms (s .on) (roleAt roles (k % 32)) (capabilityAt cs k) 0
-    → sessionKeepsWith enrolled known u s ≡ sessionKeeps enrolled roles count cs i s
+pub session-agrees : (enrolled : ℕ) (roles : List Role) (count : ℕ) (cs : List Capability) (n i j grants : ℕ) (s : Session) (known : Bool) (u : Terms)
+    → Placed (s .on) i j
+    → known ≡ there count (partyIn (s .on) (roleAt roles i) (capabilityAt cs j))
+    → u ≡ slotTerms (s .on) (roleAt roles i) (capabilityAt cs j) grants
+    → sessionKeepsWith enrolled known u s ≡ sessionKeeps enrolled roles count cs n s
 unfolding sessionKeepsWith sessionKeeps
-session-agrees enrolled roles count cs i k s known u at-k at-known at-u =
-    ap (λ (b : Bool). cond (s .active) b (sessionBlank s)) (each-under before (known ∷ admitted u (s .hour) (s .place) (s .device) ∷ []) (exists roles count (s .on) ∷ admitted (terms roles cs (s .on)) (s .hour) (s .place) (s .device) ∷ []) agree)
+session-agrees enrolled roles count cs n i j grants s known u placed at-known at-u =
+    ap (λ (b : Bool). cond (s .active) b (sessionBlank s)) (each-under before (rest known u) (rest (exists roles count (s .on)) (terms roles cs (s .on))) agree)
   where
     before : List Bool
-    before = isUser (s .user) ∷ isOrigin (s .on) ∷ inContext (s .hour) (s .place) (s .device) ∷ has enrolled (s .user) ∷ []
+    before = isUser (s .user) ∷ isOrigin (s .on) ∷ inContext (openedIn s) ∷ has enrolled (s .user) ∷ []
 
-    agree : Each before → each (known ∷ admitted u (s .hour) (s .place) (s .device) ∷ []) ≡ each (exists roles count (s .on) ∷ admitted (terms roles cs (s .on)) (s .hour) (s .place) (s .device) ∷ [])
+    rest : Bool → Terms → List Bool
+    rest a t = a ∷ admitted t (openedIn s) ∷ []
+
+    agree : Each before → each (rest known u) ≡ each (rest (exists roles count (s .on)) (terms roles cs (s .on)))
     agree h =
         ap₂ (λ (a b : Bool). each (a ∷ b ∷ []))
-        (at-known ∙ there-exists roles count (capabilityAt cs k) (s .on) k at-k (h .1 .0))
-        (ap (λ (t : Terms). admitted t (s .hour) (s .place) (s .device)) at-u ∙ limits-admit roles cs (s .on) k (s .hour) (s .place) (s .device) at-k (h .1 .0))
+        (at-known ∙ there-exists roles cs count (s .on) i j (h .1 .0) placed)
+        (ap (λ (t : Terms). admitted t (openedIn s)) at-u ∙ placed-admits roles cs (s .on) _ _ grants (openedIn s) (h .1 .0) placed)
 
 -- ---- the register
 

@@ -50,14 +50,6 @@ pub masked-more : (n : ℕ) (p : ℕ → Bool) {x y : ℕ} → x ≡ masked p n 
 unfolding masked
 masked-more n p e f = rw add-one (f ∙ ap (λ (m : ℕ). bitOr m (cond (p n) (2 ^ n) 0)) e)
 
--- a column, filled one place further
-pub column-more : (f : ℕ → ℕ) (l : List ℕ) (i v : ℕ) → i < length l → ((k : ℕ) → k < i → getD l k 0 ≡ f k) → v ≡ f i
-    → (k : ℕ) → k < i + 1 → getD (set l i v) k 0 ≡ f k
-column-more f l i v h p e =
-    below-more (λ k. getD (set l i v) k 0 ≡ f k) i
-    (λ k b. getD-set-other l i k v 0 (λ z. absurd (omega arith)) ∙ p k b)
-    (getD-set-same l i v 0 h ∙ e)
-
 -- masks of the numbers below n, one for each value below 8 that a number can have: one number more
 pub groups-more : (value : ℕ → ℕ) (l : List ℕ) (n k : ℕ) → length l ≡ 8
     → ((d : ℕ) → d < 8 → getD l d 0 ≡ masked (λ (u : ℕ). eqb (value u) d) n) → k ≡ value n % 8

@@ -7,13 +7,14 @@ ghost use Rattle.model.specs.Rules.{placeKeeps};
 use crate::columns::bump;
 use crate::columns::founded_roles;
 use crate::columns::places;
-use crate::columns::role_permissions;
 use entries::capability::keeps_place;
-use entries::limits::number_of;
-use masks::join;
 use model::Register;
-use parties::allowance_of;
-use parties::present_in;
+use origins::authority::authorities_of;
+use origins::authority::granted_by;
+use origins::numbers::capability_held;
+use origins::numbers::role_held;
+use origins::standing::present_in;
+use origins::terms::allowance_of;
 
 // The rules of the places below the bound, up to the first that breaks them. How many were created from each capability is counted
 // first; a function of its own for that would copy the register.
@@ -22,7 +23,7 @@ pub fn capabilities_keep(r: Register, bound: usize) -> bool
     ensures { λ q. ⌜ (r .count ≤ 256 → q ≡ allBelow bound (λ n. placeKeeps (r .enrolled) (r .roles) (r .count) (r .capabilities) n (capabilityAt (r .capabilities) n))) ⌝ }
 {
     let roles = r.roles;
-    let permissions = role_permissions(roles);
+    let authorities = authorities_of(roles);
     let founded = founded_roles(roles);
     let created = places(r.count);
     let mut table = [0u16; 256];
@@ -39,11 +40,10 @@ pub fn capabilities_keep(r: Register, bound: usize) -> bool
     while i < bound {
         let c = r.capabilities[i];
         let o = c.origin;
-        let k = number_of(o);
-        let role = roles[(k % 32) as usize];
-        let p = r.capabilities[k as usize];
-        let lent = join(&permissions, p.lent);
-        let u = allowance_of(o, role, p, lent);
+        let role = roles[(role_held(o) % 32) as usize];
+        let p = r.capabilities[capability_held(o) as usize];
+        let grants = granted_by(&authorities, o, p);
+        let u = allowance_of(o, role, p, grants);
         let there = present_in(o, role, count);
         let kept = keeps_place(enrolled, founded, count, i, there, u, table[i], c);
         if !kept {

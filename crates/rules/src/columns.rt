@@ -1,26 +1,19 @@
 // Tables and masks that the sweep makes once.
 ghost use mathlib.Core.Path.{_≡_};
-ghost use Prim.Native.Nat.{ℕ, _<_, _≤_};
+ghost use mathlib.Core.Bool.{cond};
+ghost use Prim.Native.Nat.{ℕ, _^_, _<_, _≤_};
 ghost use lib.ListN.{getD};
-ghost use Rattle.model.specs.State.{roleAt};
-ghost use Rattle.entries.specs.Limits.{numberOf};
+ghost use Rattle.origins.specs.Numbers.{capabilityHeld};
 ghost use Rattle.rules.specs.Columns.{masked, isFounded, inDomain, bumped};
-use entries::bits::single;
 use model::Origin;
 use model::Role;
 
-// The permissions of each role.
-pub fn role_permissions(roles: [Role; 32]) -> [u32; 32]
-    ensures { λ q. ⌜ ((k : ℕ) → k < 32 → getD q k 0 ≡ roleAt roles k .permissions) ⌝ }
+// The mask of item k alone, or of none.
+fn single(on: bool, k: usize) -> u64
+    requires { ⌜ k < 64 ⌝ }
+    ensures { λ q. ⌜ q ≡ cond on (2 ^ k) 0 ⌝ }
 {
-    let mut column = [0u32; 32];
-    let mut i: usize = 0;
-    while i < 32 {
-        let role = roles[i];
-        column[i] = role.permissions;
-        i = i + 1;
-    }
-    column
+    if on { 1 << k } else { 0 }
 }
 
 // The roles that are founded.
@@ -53,7 +46,7 @@ pub fn domain_users(domains: &[u8; 64]) -> [u64; 8]
 
 // One capability more, with the origin o.
 pub fn bump(table: &mut [u16; 256], o: Origin)
-    requires { ⌜ getD (now table) (numberOf o) 0 < 256 ⌝ }
+    requires { ⌜ getD (now table) (capabilityHeld o) 0 < 256 ⌝ }
     ensures { λ _. ⌜ now (table .exit) ≡ bumped (now (table .entry)) o ⌝ }
 {
     match o {

@@ -2,8 +2,7 @@
 use mathlib.Core.Path.{_≡_, refl, ap, ap₂, _∙_}
 use mathlib.Core.Bool.{Bool, false, cond}
 use mathlib.Core.List.{List, [], _∷_}
-use Prim.Native.Nat.{ℕ, _%_}
-use native.Mathlib.Nat.{mod-eq-of-lt}
+use Prim.Native.Nat.{ℕ, _%_, _<_}
 use lib.Dec.{T, ltb, ltb→lt}
 use lib.ListN.{set}
 use lib.Seq.{set-getD}
@@ -17,22 +16,24 @@ use Rattle.model.specs.declared.Capability.{Capability}
 use Rattle.model.specs.declared.Session.{Session}
 use Rattle.model.specs.declared.Register.{Register}
 use Rattle.model.specs.declared.LocalRequest.the-variants.{Open}
-use Rattle.model.specs.State.{roleAt, capabilityAt, sessionAt, terms, roleAuthority, authority, admitted, inContext}
+use Rattle.model.specs.State.{Party, Terms, contextOf, roleAt, capabilityAt, sessionAt, terms, admitted, inContext}
 use Rattle.model.specs.Rules.{isSession, isUser, isPermission, isOrigin, wellFormed}
 use Rattle.model.specs.Invariant.{OriginInRange}
 use Rattle.model.specs.Setters.{withCapabilities, withSessions}
-use Rattle.model.specs.Rulings.{partyOf, termsOf}
-use Rattle.model.specs.Sessions.{session, puttingSession, used, newSession, permits, openingSession, checking, closing, openRuling, checkRuling, closeRuling}
+use Rattle.model.specs.Rulings.{Outcome, partyOf, termsOf}
+use Rattle.model.specs.Sessions.{session, puttingSession, used, newSession, permitting, permits, openingSession, checking, closing, openRuling, checkRuling, closeRuling}
 use Rattle.model.specs.Calls.{check, close, ruling, settled}
 use Rattle.model.specs.Requests.{localCall, namedOrigin}
 use Rattle.model.proofs.Rules.{formed→}
+use Rattle.model.proofs.RuleFacts.{origin←}
 use Rattle.model.proofs.Settling.{passed, settle-ranged, settle-same}
 use Rattle.slots.specs.Slots.{Places, look, lifted, withSessionSlots}
-use Rattle.parties.specs.Terms.{slotTerms}
-use Rattle.slots.specs.Terms.{OnPlaced, columnLent, usedIn}
-use Rattle.slots.proofs.CheckLaws.{in-range}
+use Rattle.origins.specs.Authority.{grantedBy}
+use Rattle.origins.specs.Numbers.{roleHeld, capabilityHeld}
+use Rattle.origins.specs.Terms.{slotTerms}
+use Rattle.origins.proofs.Laws.{in-range, held-placed, Column, placed-party, placed-terms}
+use Rattle.slots.specs.Terms.{OnPlaced, usedIn}
 use Rattle.slots.proofs.SlotLaws.{put-same, put-session, ranged-commit}
-use Rattle.slots.proofs.TermLaws.{Column, lent-column}
 use Rattle.sessions.specs.Sessions.{closeDecision, permitsIn, checkAnswer, checkDecision, openingOn, openDecision}
 
 -- ---- close
@@ -49,23 +50,22 @@ close-commit r p s e =
 -- ---- check
 
 -- what an origin permits, from its element
-origin-permits : (r : Register) (p : Places) (permissions : List ℕ) (s : Session) (q : ℕ) → Column permissions (r .roles) → OriginInRange (s .on) → OnPlaced p (s .on)
-    → permitsIn (r .clock) s ((look r p) .role) ((look r p) .capability) (columnLent permissions ((look r p) .capability .lent)) q ≡ permits r (s .on) (s .user) q
-unfolding permitsIn permits slotTerms terms roleAuthority authority
-origin-permits r p permissions s q h l e = cases (s .on) l e
-  where
-    cases : (o : Origin) → OriginInRange o → OnPlaced p o
-        → permitsIn (r .clock) (record { active = s .active; user = s .user; on = o; hour = s .hour; place = s .place; device = s .device }) ((look r p) .role) ((look r p) .capability) (columnLent permissions ((look r p) .capability .lent)) q ≡ permits r o (s .user) q
-    cases (ofRole k) l e = rw (e, mod-eq-of-lt l)
-    cases (ofCapability n) l e = rw (e, mod-eq-of-lt l, lent-column permissions (r .roles) _ h)
+origin-permits : (r : Register) (p : Places) (authorities : List ℕ) (s : Session) (q : ℕ) → Column authorities (r .roles) → OriginInRange (s .on) → OnPlaced p (s .on)
+    → permitsIn (r .clock) s ((look r p) .role) ((look r p) .capability) (grantedBy authorities (s .on) ((look r p) .capability)) q ≡ permits r (s .on) (s .user) q
+unfolding permitsIn permits
+origin-permits r p authorities s q h l e =
+    let ranged = origin← (s .on) l in
+    ap₂ (λ (y : Party) (t : Terms). each (permitting (r .clock) y t (s .user) q))
+    (placed-party (r .roles) (r .capabilities) (s .on) (p .role) (p .capability) ranged e)
+    (placed-terms authorities (r .roles) h (r .capabilities) (s .on) (p .role) (p .capability) ranged e)
 
 -- the answer to a check, by the session and what it is on, read from the register
-pub check-answered : (r : Register) (p : Places) (permissions : List ℕ) (s q : ℕ) → T (wellFormed r) → Column permissions (r .roles)
+pub check-answered : (r : Register) (p : Places) (authorities : List ℕ) (s q : ℕ) → T (wellFormed r) → Column authorities (r .roles)
     → p .session ≡ s % 64 → OnPlaced p ((sessionAt (r .sessions) (s % 64)) .on)
-    → record { answer = checkAnswer (r .clock) (sessionAt (r .sessions) (p .session)) (roleAt (r .roles) (p .role)) (capabilityAt (r .capabilities) (p .capability)) permissions s q; after = r }
+    → record { answer = checkAnswer (r .clock) (sessionAt (r .sessions) (p .session)) (roleAt (r .roles) (p .role)) (capabilityAt (r .capabilities) (p .capability)) authorities s q; after = r }
     ≡ settled r (check s q)
 unfolding checkAnswer settled ruling checkRuling
-check-answered r p permissions s q w h e o =
+check-answered r p authorities s q w h e o =
     let ts : List Bool = isSession s ∷ isPermission q ∷ [] in
     settle-same r ((checking (session r (p .session)) false s q) .guards) _
     ∙ settle-ranged r 2 ts _ _ _ _ _ _
@@ -73,30 +73,39 @@ check-answered r p permissions s q w h e o =
     (λ g.
     let i : s % 64 ≡ s = in-range s 64 (g .0 .0) in (
       rw (e, i) (ap (λ (b : Bool). cond b 1 0)
-          (origin-permits r p permissions (sessionAt (r .sessions) s) q h (formed→ r w .sessions s (ltb→lt s 64 (g .0 .0)) (passed 3 ((checkRuling r s q) .guards) g .0) .on-range) (rw i at o))),
+          (origin-permits r p authorities (sessionAt (r .sessions) s) q h (formed→ r w .sessions s (ltb→lt s 64 (g .0 .0)) (passed 3 ((checkRuling r s q) .guards) g .0) .on-range) (rw i at o))),
       refl,
     ))
 
-pub check-commit : (r : Register) (p : Places) (permissions : List ℕ) (s q : ℕ) → T (wellFormed r) → Column permissions (r .roles)
+-- the same, where o is the answer and the places are those that the session's own numbers give
+pub check-done : (r : Register) (authorities : List ℕ) (n q i j : ℕ) (o : Outcome) → T (wellFormed r) → Column authorities (r .roles)
+    → (let on = (sessionAt (r .sessions) (n % 64)) .on in (i ≡ roleHeld on) × (j ≡ capabilityHeld on)) → j < 256
+    → o ≡ checkAnswer (r .clock) (sessionAt (r .sessions) (n % 64)) (roleAt (r .roles) (i % 32)) (capabilityAt (r .capabilities) j) authorities n q
+    → record { answer = o; after = r } ≡ settled r (check n q)
+check-done r authorities n q i j o k column held few e =
+    ap (λ (z : Outcome). record { answer = z; after = r }) e
+    ∙ check-answered r (record { user = 0; role = i % 32; parent = 0; capability = j; session = n % 64 }) authorities n q k column refl (held-placed ((sessionAt (r .sessions) (n % 64)) .on) i j (held .0) (held .1) few)
+
+pub check-commit : (r : Register) (p : Places) (authorities : List ℕ) (s q : ℕ) → T (wellFormed r) → Column authorities (r .roles)
     → p .session ≡ s % 64 → OnPlaced p ((sessionAt (r .sessions) (s % 64)) .on)
-    → lifted r p (checkDecision (look r p) permissions s q) ≡ settled r (check s q)
-check-commit r p permissions s q w h e o =
-    ap (λ (z : Register). record { answer = (checkDecision (look r p) permissions s q) .answer; after = z }) (put-same r p)
-    ∙ check-answered r p permissions s q w h e o
+    → lifted r p (checkDecision (look r p) authorities s q) ≡ settled r (check s q)
+check-commit r p authorities s q w h e o =
+    ap (λ (z : Register). record { answer = (checkDecision (look r p) authorities s q) .answer; after = z }) (put-same r p)
+    ∙ check-answered r p authorities s q w h e o
 
 -- ---- open
 
 -- a session made from numbers in their ranges
-pub session-ranged : (user hour place device : ℕ) (o : Origin) → T (isUser user) → T (inContext hour place device)
-    → newSession (user % 64) o (hour % 24) (place % 16) (device % 16) ≡ newSession user o hour place device
+pub session-ranged : (user : ℕ) (at : Context) (o : Origin) → T (isUser user) → T (inContext at)
+    → newSession (user % 64) o (contextOf (at .hour % 24) (at .place % 16) (at .device % 16)) ≡ newSession user o at
 unfolding inContext
-session-ranged user hour place device o u c =
-    let f = each→ (ltb hour 24 ∷ ltb place 16 ∷ ltb device 16 ∷ []) c in
-    rw (in-range user 64 u, in-range hour 24 (f .0), in-range place 16 (f .1 .0), in-range device 16 (f .1 .1 .0))
+session-ranged user at o u c =
+    let f = each→ (ltb (at .hour) 24 ∷ ltb (at .place) 16 ∷ ltb (at .device) 16 ∷ []) c in
+    rw (in-range user 64 u, in-range (at .hour) 24 (f .0), in-range (at .place) 16 (f .1 .0), in-range (at .device) 16 (f .1 .1 .0))
 
 module _ (r : Register) (p : Places) (s user : ℕ) (at : Context) where
   opening-placed : (o : Origin) → p .session ≡ s → OnPlaced p o → T (isOrigin o)
-      → openingOn (look r p) o s user at ≡ openingSession (r .clock) (r .enrolled) (r .count) (session r s) (partyOf r o) (termsOf r o) s user o (at .hour) (at .place) (at .device)
+      → openingOn (look r p) o s user at ≡ openingSession (r .clock) (r .enrolled) (r .count) (session r s) (partyOf r o) (termsOf r o) s user o at
   unfolding slotTerms terms admitted
   opening-placed (ofRole k) e n l = rw (e, n, in-range k 32 l)
   opening-placed (ofCapability k) e n l = rw (e, n, in-range k 256 l)
@@ -109,7 +118,7 @@ module _ (r : Register) (p : Places) (s user : ℕ) (at : Context) where
   pub open-commit : (o : Named) → p .session ≡ s % 64 → OnPlaced p (namedOrigin o) → lifted r p (openDecision (look r p) s user o at) ≡ settled r (localCall (Open s user o at))
   unfolding openDecision settled ruling openRuling
   open-commit o e n =
-      let ts : List Bool = isSession s ∷ isUser user ∷ isOrigin (namedOrigin o) ∷ inContext (at .hour) (at .place) (at .device) ∷ [] in
+      let ts : List Bool = isSession s ∷ isUser user ∷ isOrigin (namedOrigin o) ∷ inContext at ∷ [] in
       let here : T (each ts) → p .session ≡ s = λ t. e ∙ in-range s 64 (each-at ts t 0) in
       ranged-commit r p ts (openingOn (look r p) (namedOrigin o) s user at) _ _ _ refl refl
       (λ t. opening-placed (namedOrigin o) (here t) n (each-at ts t 2))

@@ -3,12 +3,12 @@ ghost use mathlib.Core.Path.{_≡_};
 ghost use mathlib.Core.Bool.{Bool, cond};
 ghost use lib.ListN.{drop};
 ghost use Prim.Native.Nat.{_%_};
+ghost use Rattle.model.specs.State.{contextOf};
 ghost use Rattle.model.specs.Requests.{outcomeOf, namedOrigin};
 ghost use Rattle.model.specs.Sessions.{newSession, checking, closing};
-ghost use Rattle.slots.specs.Checks.{checked, firstNumber};
+ghost use Rattle.slots.specs.Guards.{guarded, firstNumber};
 ghost use Rattle.slots.specs.Slots.{ruledOf};
 ghost use Rattle.sessions.specs.Sessions.{closeDecision, permitsIn, checkAnswer, checkDecision, openingOn, openDecision};
-use masks::join;
 use masks::member;
 use model::Answer;
 use model::Capability;
@@ -18,27 +18,31 @@ use model::Origin;
 use model::Refusal;
 use model::Role;
 use model::Session;
-use parties::allowance_of;
-use parties::present_in;
+use model::blank_session;
+use origins::authority::granted_by;
+use origins::numbers::named_range;
+use origins::numbers::origin_named;
+use origins::standing::alive_in;
+use origins::standing::member_in;
+use origins::standing::present_in;
+use origins::standing::usable_in;
+use origins::terms::admits;
+use origins::terms::allowance_of;
+use origins::terms::in_context;
 use slots::Decision;
 use slots::Slots;
-use slots::checks::Check;
-use slots::checks::first;
-use slots::origins::admits;
-use slots::origins::alive_in;
-use slots::origins::in_context;
-use slots::origins::member_in;
-use slots::origins::named_range;
-use slots::origins::usable_in;
-use slots::origins::used_in;
-use slots::terms::origin_named;
+use slots::counting::used_in;
+use slots::guards::Guarded;
+use slots::guards::answered;
+use slots::guards::first;
+use slots::settle;
 
 // ---- close
 
-fn close_check(s: Session, session: u32) -> Check
-    ensures { λ q. ⌜ checked q ≡ firstNumber ((closing s session) .guards) ⌝ }
+fn close_guards(s: Session, session: u32) -> Guarded
+    ensures { λ q. ⌜ guarded q ≡ firstNumber ((closing s session) .guards) ⌝ }
 {
-    let k = first(!s.active, Refusal::Missing, Check::Pass);
+    let k = first(!s.active, Refusal::Missing, Guarded::Pass);
     first(!(session < 64), Refusal::Range, k)
 }
 
@@ -46,46 +50,27 @@ pub fn decide_close(v: Slots, session: u32) -> Decision
     ensures { λ q. ⌜ ruledOf q ≡ closeDecision v session ⌝ }
 {
     let s = v.session;
-    let k = close_check(s, session);
-    match k {
-        Check::Refuse(why) => Decision {
-            answer: Answer::Refused(why),
-            slots: v,
-        },
-        Check::Pass => {
-            let blank = Session {
-                active: false,
-                user: 0,
-                on: Origin::Role(0),
-                hour: 0,
-                place: 0,
-                device: 0,
-            };
-            let mut w = v;
-            w.session = blank;
-            Decision {
-                answer: Answer::Value(0),
-                slots: w,
-            }
-        }
-    }
+    let k = close_guards(s, session);
+    let mut w = v;
+    w.session = blank_session();
+    settle(v, k, 0, w)
 }
 
 // ---- check
 
-fn check_check(s: Session, session: u32, permission: u32) -> Check
-    ensures { λ q. ⌜ ((permitted : Bool) → checked q ≡ firstNumber ((checking s permitted session permission) .guards)) ⌝ }
+fn check_guards(s: Session, session: u32, permission: u32) -> Guarded
+    ensures { λ q. ⌜ ((permitted : Bool) → guarded q ≡ firstNumber ((checking s permitted session permission) .guards)) ⌝ }
 {
-    let k = first(!s.active, Refusal::Missing, Check::Pass);
+    let k = first(!s.active, Refusal::Missing, Guarded::Pass);
     first(!((session < 64) & (permission < 32)), Refusal::Range, k)
 }
 
-// What check answers yes by; the lent roles of the capability have the permissions `lent`.
-fn permitted(tick: u32, s: Session, x: Role, c: Capability, lent: u32, permission: u32) -> bool
-    ensures { λ q. ⌜ q ≡ permitsIn tick s x c lent permission ⌝ }
+// What check answers yes by; the role or the capability that the session is on has the authority `grants`.
+fn permitted(tick: u32, s: Session, x: Role, c: Capability, grants: u32, permission: u32) -> bool
+    ensures { λ q. ⌜ q ≡ permitsIn tick s x c grants permission ⌝ }
 {
     let o = s.on;
-    let t = allowance_of(o, x, c, lent);
+    let t = allowance_of(o, x, c, grants);
     let entitled = member_in(o, x, c, s.user as u32);
     let alive = alive_in(o, c, tick);
     let granted = member(t.grants as u64, permission);
@@ -106,37 +91,34 @@ pub fn answer_check(
     s: Session,
     x: Role,
     c: Capability,
-    permissions: &[u32; 32],
+    authorities: &[u32; 32],
     session: u32,
     permission: u32,
 ) -> Answer
-    ensures { λ q. ⌜ outcomeOf q ≡ checkAnswer tick s x c (now (permissions .entry)) session permission ⌝ }
+    ensures { λ q. ⌜ outcomeOf q ≡ checkAnswer tick s x c (now (authorities .entry)) session permission ⌝ }
 {
-    let k = check_check(s, session, permission);
-    match k {
-        Check::Refuse(why) => Answer::Refused(why),
-        Check::Pass => {
-            let yes = permitted(tick, s, x, c, join(permissions, c.lent), permission);
-            Answer::Value(yes_number(yes))
-        }
-    }
+    let k = check_guards(s, session, permission);
+    let o = s.on;
+    let grants = granted_by(authorities, o, c);
+    let yes = permitted(tick, s, x, c, grants, permission);
+    answered(k, yes_number(yes))
 }
 
-pub fn decide_check(v: Slots, permissions: &[u32; 32], session: u32, permission: u32) -> Decision
-    ensures { λ q. ⌜ ruledOf q ≡ checkDecision v (now (permissions .entry)) session permission ⌝ }
+pub fn decide_check(v: Slots, authorities: &[u32; 32], session: u32, permission: u32) -> Decision
+    ensures { λ q. ⌜ ruledOf q ≡ checkDecision v (now (authorities .entry)) session permission ⌝ }
 {
     let s = v.session;
     let x = v.role;
     let c = v.capability;
-    let answer = answer_check(v.clock, s, x, c, permissions, session, permission);
+    let answer = answer_check(v.clock, s, x, c, authorities, session, permission);
     Decision { answer, slots: v }
 }
 
 // ---- open
 
 // The tests of the user, the role or capability and the context; all that is named is there.
-fn admission_check(v: Slots, o: Origin, session: u32, user: u32, at: Context) -> Check
-    ensures { λ q. ⌜ checked q ≡ firstNumber (drop 3 ((openingOn v o session user at) .guards)) ⌝ }
+fn admission_guards(v: Slots, o: Origin, session: u32, user: u32, at: Context) -> Guarded
+    ensures { λ q. ⌜ guarded q ≡ firstNumber (drop 3 ((openingOn v o session user at) .guards)) ⌝ }
 {
     let x = v.role;
     let c = v.capability;
@@ -145,15 +127,15 @@ fn admission_check(v: Slots, o: Origin, session: u32, user: u32, at: Context) ->
     let alive = alive_in(o, c, v.clock);
     let admitted = admits(t, at);
     let usable = usable_in(o, c);
-    let k = first(!usable, Refusal::Exhausted, Check::Pass);
+    let k = first(!usable, Refusal::Exhausted, Guarded::Pass);
     let k = first(!admitted, Refusal::Context, k);
     let k = first(!alive, Refusal::Expired, k);
     let k = first(t.revoked, Refusal::Revoked, k);
     first(!entitled, Refusal::Forbidden, k)
 }
 
-fn open_check(v: Slots, session: u32, user: u32, on: Named, at: Context) -> Check
-    ensures { λ q. ⌜ checked q ≡ firstNumber ((openingOn v (namedOrigin on) session user at) .guards) ⌝ }
+fn open_guards(v: Slots, session: u32, user: u32, on: Named, at: Context) -> Guarded
+    ensures { λ q. ⌜ guarded q ≡ firstNumber ((openingOn v (namedOrigin on) session user at) .guards) ⌝ }
 {
     let o = origin_named(on);
     let x = v.role;
@@ -162,7 +144,7 @@ fn open_check(v: Slots, session: u32, user: u32, on: Named, at: Context) -> Chec
     let present = present_in(o, x, v.count);
     let numbered = named_range(on);
     let timely = in_context(at);
-    let k = admission_check(v, o, session, user, at);
+    let k = admission_guards(v, o, session, user, at);
     let k = first(s.active, Refusal::Unchanged, k);
     let k = first(!(known & present), Refusal::Missing, k);
     first(
@@ -173,7 +155,7 @@ fn open_check(v: Slots, session: u32, user: u32, on: Named, at: Context) -> Chec
 }
 
 fn new_session(user: u32, o: Origin, at: Context) -> Session
-    ensures { λ q. ⌜ q ≡ newSession (user % 64) o (at .hour % 24) (at .place % 16) (at .device % 16) ⌝ }
+    ensures { λ q. ⌜ q ≡ newSession (user % 64) o (contextOf (at .hour % 24) (at .place % 16) (at .device % 16)) ⌝ }
 {
     Session {
         active: true,
@@ -188,23 +170,12 @@ fn new_session(user: u32, o: Origin, at: Context) -> Session
 pub fn decide_open(v: Slots, session: u32, user: u32, on: Named, at: Context) -> Decision
     ensures { λ q. ⌜ ruledOf q ≡ openDecision v session user on at ⌝ }
 {
-    let k = open_check(v, session, user, on, at);
-    match k {
-        Check::Refuse(why) => Decision {
-            answer: Answer::Refused(why),
-            slots: v,
-        },
-        Check::Pass => {
-            let o = origin_named(on);
-            let c = used_in(o, v.capability);
-            let s = new_session(user, o, at);
-            let mut w = v;
-            w.capability = c;
-            w.session = s;
-            Decision {
-                answer: Answer::Value(0),
-                slots: w,
-            }
-        }
-    }
+    let k = open_guards(v, session, user, on, at);
+    let o = origin_named(on);
+    let c = used_in(o, v.capability);
+    let s = new_session(user, o, at);
+    let mut w = v;
+    w.capability = c;
+    w.session = s;
+    settle(v, k, 0, w)
 }

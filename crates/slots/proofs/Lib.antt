@@ -1,4 +1,4 @@
--- Laws of checks, of elements put back and of terms read from elements.
-pub mod CheckLaws
+-- Laws of guards, of elements put back and of counts that rise.
+pub mod GuardLaws
 pub mod SlotLaws
-pub mod TermLaws
+pub mod CountLaws

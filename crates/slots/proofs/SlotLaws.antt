@@ -20,7 +20,7 @@ use Rattle.model.specs.Delegation.{putting}
 use Rattle.model.proofs.Settling.{Clear, settle-past, settle-after, settle-into}
 use Rattle.slots.specs.declared.Slots.{Slots}
 use Rattle.slots.specs.Slots.{Places, look, put, lifted, withClockSlot, withUserSlot, withRoleSlot, withCapabilitySlot, withCreatedSlots, withSessionSlots, onRole, onCapability}
-use Rattle.slots.proofs.CheckLaws.{in-range}
+use Rattle.origins.proofs.Laws.{in-range}
 
 -- ---- elements put back
 

@@ -1,4 +1,4 @@
 -- A call over the elements that it names: what the contracts of the families cite.
-pub mod Checks
+pub mod Guards
 pub mod Slots
 pub mod Terms

@@ -1,3 +1,2 @@
--- Laws of columns and of the sweep.
-pub mod ColumnLaws
+-- Laws of the sweep.
 pub mod SweepLaws

@@ -1,63 +1,28 @@
 // The sweep over all capabilities in rising number: one loop over leaves that take single capabilities.
 ghost use mathlib.Core.Path.{_≡_};
 ghost use mathlib.Core.Bool.{cond, _||_};
-ghost use Prim.Native.Nat.{ℕ, _<_, min};
+ghost use Prim.Native.Nat.{min};
 ghost use lib.Bits.{bitAnd};
-ghost use lib.ListN.{length, getD};
-ghost use Rattle.model.specs.State.{roleAuthority};
+ghost use lib.ListN.{length};
 ghost use Rattle.model.specs.Requests.{effectOf};
 ghost use Rattle.model.specs.Setters.{withRevoked, withUseLimit, withPermissions};
-ghost use Rattle.sweeps.specs.Sweeping.{parentPlace, parentRevoked, parentLimit, parentGrants, roleGrants, oneIf, sweptOne, rolesAfter, valueOf, sweptBy};
-use masks::join;
+ghost use Rattle.sweeps.specs.Sweeping.{oneIf, sweptOne, rolesAfter, sweepValue, sweptBy};
 use model::Answer;
 use model::Capability;
-use model::Origin;
 use model::Register;
 use model::Reply;
 use model::Role;
+use origins::authority::authorities_of;
+use origins::authority::granted_by;
+use origins::numbers::capability_held;
+use origins::terms::bare_allowance;
 
-// What each role grants: a column, to be lent where the register would be copied.
-pub fn permissions_of(roles: [Role; 32]) -> [u32; 32]
-    ensures { λ q. ⌜ ((k : ℕ) → k < 32 → getD q k 0 ≡ roleAuthority roles k) ⌝ }
+// The capability after the sweep has reached it: marked if it was, or is the one named, or its origin is marked by now.
+fn marked(c: Capability, named: bool, above: bool) -> Capability
+    ensures { λ q. ⌜ q ≡ withRevoked c (c .revoked || (named || above)) ⌝ }
 {
-    let mut column = [0u32; 32];
-    let mut i: usize = 0;
-    while i < 32 {
-        let x = roles[i];
-        column[i] = x.permissions;
-        i = i + 1;
-    }
-    column
-}
-
-// Where the capability stands that is the origin; for a role any place serves.
-pub fn parent_of(o: Origin) -> u8
-    ensures { λ q. ⌜ q ≡ parentPlace o ⌝ }
-{
-    match o {
-        Origin::Role(_) => 0,
-        Origin::Capability(k) => k,
-    }
-}
-
-// The origin is revoked: never a role.
-pub fn parent_revoked(o: Origin, parent: Capability) -> bool
-    ensures { λ q. ⌜ q ≡ parentRevoked o parent ⌝ }
-{
-    match o {
-        Origin::Role(_) => false,
-        Origin::Capability(_) => parent.revoked,
-    }
-}
-
-// The capability after the sweep has reached it: marked if it was, or is the one named, or its parent is marked by now.
-pub fn marked(c: Capability, named: bool, parent: Capability) -> Capability
-    ensures { λ q. ⌜ q ≡ withRevoked c (c .revoked || (named || parentRevoked (c .origin) parent)) ⌝ }
-{
-    let o = c.origin;
-    let up = parent_revoked(o, parent);
     let mut next = c;
-    next.revoked = c.revoked | (named | up);
+    next.revoked = c.revoked | (named | above);
     next
 }
 
@@ -68,18 +33,8 @@ pub fn one_if(test: bool) -> u32
     if test { 1 } else { 0 }
 }
 
-// The use limit of the origin: a role's is 65,535.
-pub fn parent_limit(o: Origin, parent: Capability) -> u16
-    ensures { λ q. ⌜ q ≡ parentLimit o parent ⌝ }
-{
-    match o {
-        Origin::Role(_) => 65535,
-        Origin::Capability(_) => parent.use_limit,
-    }
-}
-
 // The capability named gets the limit; any other keeps its own, cut to its origin's.
-pub fn limit_for(named: bool, limit: u16, own: u16, bound: u16) -> u16
+fn limit_for(named: bool, limit: u16, own: u16, bound: u16) -> u16
     ensures { λ q. ⌜ q ≡ cond named limit (min own bound) ⌝ }
 {
     if named {
@@ -88,34 +43,15 @@ pub fn limit_for(named: bool, limit: u16, own: u16, bound: u16) -> u16
     if own < bound { own } else { bound }
 }
 
-pub fn limited(c: Capability, named: bool, limit: u16, parent: Capability) -> Capability
-    ensures { λ q. ⌜ q ≡ withUseLimit c (cond named limit (min (c .«use_limit») (parentLimit (c .origin) parent))) ⌝ }
+fn limited(c: Capability, named: bool, limit: u16, bound: u16) -> Capability
+    ensures { λ q. ⌜ q ≡ withUseLimit c (cond named limit (min (c .«use_limit») bound)) ⌝ }
 {
-    let o = c.origin;
-    let bound = parent_limit(o, parent);
     let mut next = c;
     next.use_limit = limit_for(named, limit, c.use_limit, bound);
     next
 }
 
-// What role k grants; there is none past 31.
-pub fn role_grants(permissions: &[u32; 32], k: u8) -> u32
-    ensures { λ q. ⌜ q ≡ roleGrants (now (permissions .entry)) k ⌝ }
-{
-    if k < 32 { permissions[k as usize] } else { 0 }
-}
-
-// What the origin grants: the column has what each role grants.
-pub fn parent_grants(permissions: &[u32; 32], o: Origin, parent: Capability) -> u32
-    ensures { λ q. ⌜ q ≡ parentGrants (now (permissions .entry)) o parent ⌝ }
-{
-    match o {
-        Origin::Role(k) => role_grants(permissions, k),
-        Origin::Capability(_) => parent.permissions | join(permissions, parent.lent),
-    }
-}
-
-pub fn cut(c: Capability, grants: u32) -> Capability
+fn cut(c: Capability, grants: u32) -> Capability
     ensures { λ q. ⌜ q ≡ withPermissions c (bitAnd (c .permissions) grants) ⌝ }
 {
     let mut next = c;
@@ -139,18 +75,21 @@ fn swept(
     i: usize,
     c: Capability,
     parent: Capability,
-    permissions: &[u32; 32],
+    authorities: &[u32; 32],
 ) -> Capability
-    ensures { λ q. ⌜ q ≡ sweptOne s i c parent (now (permissions .entry)) ⌝ }
+    ensures { λ q. ⌜ q ≡ sweptOne s i c parent (now (authorities .entry)) ⌝ }
 {
+    let o = c.origin;
     match s {
-        Sweep::Mark(n) => marked(c, i == n as usize, parent),
-        Sweep::Limit(n, limit) => limited(c, i == n as usize, limit, parent),
-        Sweep::Cut(_, _) => {
-            let o = c.origin;
-            let grants = parent_grants(permissions, o, parent);
-            cut(c, grants)
+        Sweep::Mark(n) => {
+            let up = bare_allowance(o, parent);
+            marked(c, i == n as usize, up.revoked)
         }
+        Sweep::Limit(n, limit) => {
+            let up = bare_allowance(o, parent);
+            limited(c, i == n as usize, limit, up.use_limit)
+        }
+        Sweep::Cut(_, _) => cut(c, granted_by(authorities, o, parent)),
     }
 }
 
@@ -173,8 +112,8 @@ fn roles_after(roles: [Role; 32], s: Sweep) -> [Role; 32]
 }
 
 // The value of the call: the new marks, the limit, or 0.
-fn value_of(s: Sweep, marks: u32) -> u32
-    ensures { λ q. ⌜ q ≡ valueOf s marks ⌝ }
+fn sweep_value(s: Sweep, marks: u32) -> u32
+    ensures { λ q. ⌜ q ≡ sweepValue s marks ⌝ }
 {
     match s {
         Sweep::Mark(_) => marks,
@@ -190,7 +129,7 @@ pub fn sweep_all(r: Register, s: Sweep) -> Reply
 {
     let before = r.roles;
     let roles = roles_after(before, s);
-    let permissions = permissions_of(roles);
+    let authorities = authorities_of(roles);
     let mut next = r;
     next.roles = roles;
     let mut marks: u32 = 0;
@@ -198,14 +137,13 @@ pub fn sweep_all(r: Register, s: Sweep) -> Reply
     while i < 256 {
         let c = next.capabilities[i];
         let o = c.origin;
-        let k = parent_of(o);
-        let parent = next.capabilities[k as usize];
-        let d = swept(s, i, c, parent, &permissions);
+        let parent = next.capabilities[capability_held(o) as usize];
+        let d = swept(s, i, c, parent, &authorities);
         next.capabilities[i] = d;
         marks = marks + one_if(d.revoked & !c.revoked);
         i = i + 1;
     }
-    let value = value_of(s, marks);
+    let value = sweep_value(s, marks);
     Reply {
         answer: Answer::Value(value),
         register: next,

@@ -1,8 +1,10 @@
 use borrow.Author.Needs.{needs}
+use mathlib.Core.Path.{refl}
 use Rattle.administration.specs.Administration.{appointDecision}
 use Rattle.model.specs.Administration.{appointing}
 use Rattle.model.proofs.Settling.{passed}
-use Rattle.slots.proofs.CheckLaws.{in-range}
+use Rattle.origins.proofs.Laws.{in-range}
+use Rattle.slots.specs.Slots.{withRoleSlot}
 use Rattle.administration.proofs.decide_appoint.Statement.{statement}
 use Rattle.administration.proofs.decide_appoint.Tie as tie
 
@@ -11,8 +13,8 @@ unfolding appointDecision
 returns c =
     let x = c .before .before .before .before .args in
     let q = appointing (x .v .enrolled) (x .v .domain) (x .v .role) (x .user) (x .role) in
-    c .put-role .ensures (q .guards) (q .after) tt (c .before .before .appoint-check .ensures)
-    (λ g. rw (c .before .including64 .ensures, in-range (x .user) 64 (passed 2 (q .guards) g .0)))
+    c .settle .ensures (q .guards) 0 (withRoleSlot (x .v) (q .after)) tt (c .before .before .appoint-guards .ensures)
+    (λ g. (refl, rw (c .before .including64 .ensures, in-range (x .user) 64 (passed 2 (q .guards) g .0))))
 
 pub decide-appoint-spec : {M : Type 1} → statement M
 decide-appoint-spec = tie.close (tie.spec (λ c κs. search needs) (λ c κs. search needs) (λ c κs. search needs) returns)

@@ -2,7 +2,7 @@
 use borrow.Author.Needs.{needs}
 use mathlib.Core.Path.{sym, ap, _∙_}
 use Rattle.model.proofs.Rules.{kept→}
-use Rattle.revocation.specs.Orders.{orderEffect}
+use Rattle.tree.specs.Orders.{orderEffect}
 use Rattle.apply.proofs.apply_tree.Statement.{statement}
 use Rattle.apply.proofs.apply_tree.Tie as tie
 

@@ -3,17 +3,17 @@ use borrow.Author.Needs.{needs}
 use Rattle.apply.proofs.apply_trusted.Statement.{statement}
 use Rattle.apply.proofs.apply_trusted.Tie as tie
 
-apply-one-requires : tie.Need-apply-one-requires
-apply-one-requires c κs = (c .before .before .before .before .before .before .pre, c .before .permissions-of .ensures)
+apply-local-requires : tie.Need-apply-local-requires
+apply-local-requires c κs = c .before .before .before .pre
 
 apply-tree-requires : tie.Need-apply-tree-requires
 apply-tree-requires c κs = c .before .before .before .pre
 
 returns : tie.Need-returns
-returns c = rw (c .before .before .before .before .before .q .given .1) (c .apply-one .ensures)
+returns c = rw (c .before .before .q .given .1) (c .apply-local .ensures)
 
 returns-2 : tie.Need-returns-2
 returns-2 c = rw (c .before .before .q2 .given .1) (c .apply-tree .ensures)
 
 pub apply-trusted-spec : {M : Type 1} → statement M
-apply-trusted-spec = tie.close (tie.spec (λ c. search needs) (λ c κs. search needs) apply-one-requires (λ c. search needs) apply-tree-requires returns returns-2)
+apply-trusted-spec = tie.close (tie.spec (λ c. search needs) apply-local-requires (λ c. search needs) apply-tree-requires returns returns-2)

@@ -4,12 +4,11 @@ use Prim.Native.Nat.{_<_, _^_}
 use native.Mathlib.Omega.{arith}
 use lib.Dec.{lt→ltb}
 use lib.ListN.{drop}
-use Rattle.masks.proofs.Truth.{T→true}
+use Rattle.masks.proofs.Truth.{T→true, left-each}
 use Rattle.model.specs.State.{inContext}
 use Rattle.model.specs.Rules.{isUser, isOrigin, bits}
 use Rattle.model.specs.Requests.{namedOrigin}
-use Rattle.slots.proofs.CheckLaws.{conj-each}
-use Rattle.creation.specs.Creation.{plannedRanges}
+use Rattle.model.specs.Delegation.{createRanges}
 use Rattle.creation.proofs.in_ranges.Statement.{statement}
 use Rattle.creation.proofs.in_ranges.Tie as tie
 
@@ -19,7 +18,7 @@ returns c =
     let first : x .plan .first < 2 ^ 32 = omega (arith, c .struct-known7 .given) in
     let last : x .plan .last < 2 ^ 32 = omega (arith, c .struct-known7 .given) in
     rw (c .before .before .before .before .before .before .before .before .named-range .ensures, c .before .before .before .before .before .before .before .in-context .ensures, T→true (bits 32 (x .plan .first)) (lt→ltb _ _ first), T→true (bits 32 (x .plan .last)) (lt→ltb _ _ last))
-    (conj-each (isUser (x .user)) (isOrigin (namedOrigin (x .origin)) ∷ inContext (x .at .hour) (x .at .place) (x .at .device) ∷ drop 5 (plannedRanges (x .user) (x .origin) (x .at) (x .plan))))
+    (left-each (isUser (x .user) ∷ isOrigin (namedOrigin (x .origin)) ∷ inContext (x .at) ∷ drop 5 (createRanges (x .user) (namedOrigin (x .origin)) (x .at) (x .plan))))
 
 pub in-ranges-spec : {M : Type 1} → statement M
 in-ranges-spec = tie.close (tie.spec (λ c κs. search needs) (λ c κs. search needs) returns)

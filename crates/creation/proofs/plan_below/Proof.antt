@@ -3,10 +3,9 @@ use mathlib.Core.Bool.{not}
 use mathlib.Core.List.{[], _∷_}
 use lib.Dec.{leb}
 use Rattle.masks.specs.Masks.{within}
-use Rattle.masks.proofs.Truth.{T→true}
+use Rattle.masks.proofs.Truth.{T→true, left-each}
 use Rattle.masks.proofs.MaskLaws.{within-zero}
 use Rattle.model.specs.State.{below}
-use Rattle.slots.proofs.CheckLaws.{conj-each}
 use Rattle.creation.proofs.Laws.{or-false}
 use Rattle.creation.proofs.plan_below.Statement.{statement}
 use Rattle.creation.proofs.plan_below.Tie as tie
@@ -27,8 +26,9 @@ returns c = λ user o.
       T→true (within 0 (a .lendable)) (within-zero (a .lendable)),
       or-false (not (a .revoked)),
     )
-    (conj-each (within (plan .hours) (a .hours))
-    (within (plan .places) (a .places)
+    (left-each
+    (within (plan .hours) (a .hours)
+    ∷ within (plan .places) (a .places)
     ∷ within (plan .devices) (a .devices)
     ∷ leb (a .first) (plan .first)
     ∷ leb (plan .last) (a .last)

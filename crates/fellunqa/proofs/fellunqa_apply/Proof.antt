@@ -8,7 +8,6 @@ use mir.ValLaws.{toZ-ofZ}
 use lib.Dec.{T}
 use Rattle.model.specs.Rules.{wellFormed}
 use Rattle.model.specs.Entry.{entry}
-use Rattle.model.specs.declared.Request.{Request}
 use Rattle.model.specs.Requests.{callOf}
 use Rattle.fellunqa.specs.Perform.{performed}
 use Rattle.fellunqa.proofs.Laws.{leaves-by, no-image, no-line, loaded-formed, by-call}
@@ -42,28 +41,17 @@ comes c =
     let load = c .before .before .before .before .read-checked in
     by-call (a .image .now) (a .line .now) (length (a .area .now)) (load .result) (load .ensures) (not-false (load .result .exact) (c .before .before .before .if1 .left)) _ (c .before .before .sole-line .ensures) _ (c .parsed .given .1)
 
-answer-one-requires : tie.Need-answer-one-requires
-answer-one-requires c κs = formed (c .before .before .before .before .before)
-
-answer-any-requires : tie.Need-answer-any-requires
-answer-any-requires c κs = formed (c .before .before .before .before)
+perform-requires : tie.Need-perform-requires
+perform-requires c κs = formed (c .before .before)
 
 returns-3 : tie.Need-returns-3
 returns-3 c =
-    let m = c .before .before .before .before .before .before .before .before in
+    let done = c .before .before in
+    let m = done .before .before .before in
     let a = m .before .before .before .before .before .before .before .before .args in
-    let z = c .before .before .answer-one .result in
-    let q = ap (λ (x : Request). performed (length (a .area .now)) (m .before .before .before .before .read-checked .result .register) (callOf x)) (sym (c .before .before .before .before .before .request .given .1)) in
-    let same = leaves-by (a .area .now) _ _ (q ∙ comes m) in
-    (toZ-ofZ w64 z (sfits-of {w = w64} {z = z} (c .before .before .answer-one .ok)) ∙ c .before .before .answer-one .ensures .0 ∙ same .0, c .before .before .answer-one .ensures .1 ∙ same .1)
-
-returns-4 : tie.Need-returns-4
-returns-4 c =
-    let m = c .before .before .before .before .before .before .before in
-    let a = m .before .before .before .before .before .before .before .before .args in
-    let z = c .before .before .answer-any .result in
+    let z = done .perform .result in
     let same = leaves-by (a .area .now) _ _ (comes m) in
-    (toZ-ofZ w64 z (sfits-of {w = w64} {z = z} (c .before .before .answer-any .ok)) ∙ c .before .before .answer-any .ensures .0 ∙ same .0, c .before .before .answer-any .ensures .1 ∙ same .1)
+    (toZ-ofZ w64 z (sfits-of {w = w64} {z = z} (done .perform .ok)) ∙ done .perform .ensures .0 ∙ same .0, done .perform .ensures .1 ∙ same .1)
 
 pub fellunqa-apply-spec : {M : Type 1} → statement M
 fellunqa-apply-spec =
@@ -73,11 +61,6 @@ fellunqa-apply-spec =
     returns
     (λ c κs. search needs) (λ c. search needs) (λ c. search needs)
     returns-2
+    perform-requires
     (λ c. search needs)
-    answer-one-requires
-    (λ c. search needs)
-    answer-any-requires
-    (λ c. search needs)
-    returns-3
-    (λ c. search needs)
-    returns-4)
+    returns-3)

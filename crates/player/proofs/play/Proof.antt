@@ -7,7 +7,7 @@ use native.Mathlib.Omega.{arith}
 use borrow.Author.Needs.{needs}
 use borrow.Rule.Slice.PartMut.{putMid}
 use lib.Dec.{T}
-use lib.ListN.{length, take, drop, length-set}
+use lib.ListN.{length, take, drop}
 use Rattle.buffers.proofs.Parts.{tail, length-tail, placed-nil}
 use Rattle.masks.proofs.Truth.{true→T}
 use Rattle.model.specs.declared.Register.{Register}
@@ -19,83 +19,182 @@ use Rattle.model.specs.Lines.{printed}
 use Rattle.masks.specs.Bytes.{split}
 use Rattle.model.specs.Journal.{lineEffect, transcript}
 use Rattle.model.proofs.Rules.{kept→}
-use Rattle.slots.specs.Slots.{put, lifted, ruledOf}
-use Rattle.slots.proofs.TermLaws.{Column}
-use Rattle.revocation.specs.Orders.{orderEffect}
-use Rattle.dispatch.proofs.Columns.{column-put}
-use Rattle.dispatch.proofs.Commits.{placed, commit}
+use Rattle.origins.proofs.Laws.{Column}
+use Rattle.slots.specs.declared.Slots.{Slots}
+use Rattle.slots.specs.Slots.{Places, put, lifted, ruledOf}
+use Rattle.places.specs.declared.Names.{Names}
+use Rattle.places.specs.Requests.{changesRole}
+use Rattle.tree.specs.Orders.{orderEffect}
+use Rattle.sessions.proofs.Commits.{check-done}
+use Rattle.dispatch.specs.Decide.{decideOf}
+use Rattle.dispatch.proofs.Columns.{column-kept}
+use Rattle.dispatch.proofs.Commits.{AtPlaces, placed, commit}
 use Rattle.text.specs.Parts.{before}
 use Rattle.player.proofs.Transcripts.{transcript-last, transcript-done}
 use Rattle.answers.specs.Writing.{printedInto, filled}
 use Rattle.player.specs.declared.step.Step.the-variants.{Refuse}
 use Rattle.player.specs.Steps.{Fits}
-use Rattle.player.proofs.Laws.{Playing, left-fits, to-within, turn, no-wrap, line-done, check-done, formed-after, answer-last, answer-size, unended-some}
+use Rattle.player.proofs.Laws.{Playing, left-fits, to-within, turn, no-wrap, line-done, formed-after, answer-last, answer-size, unended-some}
 use Rattle.player.proofs.Room.{transcript-most}
 use Rattle.player.proofs.play.Statement.{statement}
 use Rattle.player.proofs.play.Tie as tie
 
 -- what is still to be printed, after what is printed, gives the whole; the rules and the column follow the register
 abbrev Inv-loop : tie.InvT-loop
-Inv-loop input out₀ formed permissions₀ r₀ at₀ to₀ out permissions r at to =
-    Playing r₀ input out₀ r out at to × (formed ≡ wellFormed r) × Column permissions (r .roles) × (length permissions ≡ 32)
+Inv-loop input out₀ formed authorities₀ r₀ at₀ to₀ out authorities r at to =
+    Playing r₀ input out₀ r out at to × (formed ≡ wellFormed r) × Column authorities (r .roles) × (length authorities ≡ 32)
 
 abbrev μ-loop : tie.MeasureT-loop
-μ-loop input out₀ formed permissions₀ r₀ at₀ to₀ out permissions r at to = length input - at
+μ-loop input out₀ formed authorities₀ r₀ at₀ to₀ out authorities r at to = length input - at
+
+-- ---- the way back, from each landmark to the one before it
+
+abbrev Start : Type 0
+Start = tie.Start Inv-loop μ-loop
+
+abbrev Turn : Type 0
+Turn = tie.At-loop Inv-loop μ-loop
+
+abbrev Ended : Type 0
+Ended = tie.After-count-before Inv-loop μ-loop
+
+abbrev Told : Type 0
+Told = tie.After-step-of Inv-loop μ-loop
+
+abbrev Decided : Type 0
+Decided = tie.After-decide Inv-loop μ-loop
+
+abbrev formed-at : Turn → tie.After-well-formed Inv-loop μ-loop
+formed-at l = l .before .before .before
+
+abbrev start : Turn → Start
+start l = formed-at l .before .before .before
+
+abbrev turn-of : Ended → Turn
+turn-of c = c .before .before .before
+
+abbrev ended-at : Told → Ended
+ended-at s = s .before .before .before
+
+abbrev turned : Told → Turn
+turned s = turn-of (ended-at s)
+
+abbrev refused-at : tie.After-print2 Inv-loop μ-loop → tie.After-step Inv-loop μ-loop
+refused-at c = c .before .before .before
+
+abbrev capability-held : tie.After-answer-check Inv-loop μ-loop → tie.After-capability-held Inv-loop μ-loop
+capability-held c = c .before .before .before
+
+abbrev role-held : tie.After-answer-check Inv-loop μ-loop → tie.After-role-held Inv-loop μ-loop
+role-held c = capability-held c .before .before
+
+abbrev check-at : tie.After-answer-check Inv-loop μ-loop → tie.After-step2 Inv-loop μ-loop
+check-at c = role-held c .before .before .before
+
+abbrev tree-at : tie.After-order-of Inv-loop μ-loop → tie.After-step3 Inv-loop μ-loop
+tree-at c = c .before .before
+
+abbrev answered-at : tie.After-print4 Inv-loop μ-loop → tie.After-order Inv-loop μ-loop
+answered-at c = c .before .before .before
+
+abbrev swept-at : tie.After-sweep-all Inv-loop μ-loop → tie.After-order2 Inv-loop μ-loop
+swept-at c = c .before .before
+
+abbrev user : Decided → tie.After-user-at Inv-loop μ-loop
+user d = d .before .before .before .before
+
+abbrev parent : Decided → tie.After-parent-at Inv-loop μ-loop
+parent d = user d .before .before
+
+abbrev role : Decided → tie.After-role-at Inv-loop μ-loop
+role d = parent d .before .before
+
+abbrev capability : Decided → tie.After-capability-at Inv-loop μ-loop
+capability d = role d .before .before
+
+abbrev session : Decided → tie.After-session-at Inv-loop μ-loop
+session d = capability d .before .before
+
+abbrev names : Decided → tie.After-names-of Inv-loop μ-loop
+names d = session d .before
+
+abbrev one-at : Decided → tie.After-step4 Inv-loop μ-loop
+one-at d = names d .before .before
+
+-- a step of the match comes after what the line was told to be
+abbrev told-1 : tie.After-step Inv-loop μ-loop → Told
+told-1 c = c .before .before
+
+abbrev told-2 : tie.After-step2 Inv-loop μ-loop → Told
+told-2 c = c .before .before
+
+abbrev told-3 : tie.After-step3 Inv-loop μ-loop → Told
+told-3 c = c .before .before
+
+abbrev told-4 : tie.After-step4 Inv-loop μ-loop → Told
+told-4 c = c .before .before
 
 loop-holds : tie.Need-loop-holds Inv-loop μ-loop
 loop-holds c =
-    let s = c .before .before .before .before .before in (
+    let f = c .before .before in
+    let s = f .before .before .before in (
       record { inside = omega arith; text = refl; size = omega arith; kept = refl; room = omega (arith, s .pre, transcript-most (s .args .start) (s .args .input .now)) },
-      c .before .before .well-formed .ensures,
-      c .permissions-of .ensures,
+      f .well-formed .ensures,
+      c .authorities-of .ensures,
       search needs,
     )
 
 -- ---- where the line ends
 
-ended : (c : tie.After-count-before Inv-loop μ-loop) → c .count-before .result ≡ length (before 10 (drop (c .before .before .before .loop .at) (c .before .before .before .before .before .before .before .before .before .args .input .now)))
-ended c = c .count-before .ensures .0 ∙ ap (λ (x : List ℕ). length (before 10 x)) (tail (c .before .before .before .loop .at) (c .before .before .before .before .before .before .before .before .before .args .input .now))
+abbrev Input : Turn → List ℕ
+Input l = start l .args .input .now
 
-whole : (c : tie.After-count-before Inv-loop μ-loop) → c .count-before .result ≤ length (c .before .before .before .before .before .before .before .before .before .args .input .now) - c .before .before .before .loop .at
-whole c = omega (arith, c .count-before .ensures .1, length-tail (c .before .before .before .loop .at) (c .before .before .before .before .before .before .before .before .before .args .input .now))
+ended : (c : Ended) → c .count-before .result ≡ length (before 10 (drop (turn-of c .loop .at) (Input (turn-of c))))
+ended c = c .count-before .ensures .0 ∙ ap (λ (x : List ℕ). length (before 10 x)) (tail (turn-of c .loop .at) (Input (turn-of c)))
 
-below : (c : tie.After-count-before Inv-loop μ-loop) → length (c .before .before .before .loop .out) < 18446744073709551616
+whole : (c : Ended) → c .count-before .result ≤ length (Input (turn-of c)) - turn-of c .loop .at
+whole c = omega (arith, c .count-before .ensures .1, length-tail (turn-of c .loop .at) (Input (turn-of c)))
+
+below : (c : Ended) → length (turn-of c .loop .out) < 18446744073709551616
 below c = omega arith
 
-within : (c : tie.After-count-before Inv-loop μ-loop) → c .before .before .before .loop .to ≤ length (c .before .before .before .loop .out)
-within c = to-within _ _ _ _ (c .before .before .before .loop .out) _ (c .before .before .before .loop .to) (c .before .before .before .loop .inv .0)
+within : (l : Turn) → l .loop .to ≤ length (l .loop .out)
+within l = to-within _ _ _ _ (l .loop .out) _ (l .loop .to) (l .loop .inv .0)
 
 add-end : tie.Need-add-end Inv-loop μ-loop
-add-end c = omega (arith, whole c)
+add-end c = omega (arith, whole c, c .before .before .loop-test .taken)
 
 -- ---- a last line without its line feed
 
-unended : (c : tie.After-print Inv-loop μ-loop) →
-    let l = c .before .before .before .before .before .before .loop in
-    transcript (l .r) (split 10 (drop (l .at) (c .before .before .before .before .before .before .before .before .before .before .before .before .args .input .now))) ≡ printed (refused 1)
-unended c =
-    let l = c .before .before .before .before .before .before .loop in
-    let input = c .before .before .before .before .before .before .before .before .before .before .before .before .args .input .now in
-    transcript-last (l .r) input (l .at) _ (ended (c .before .before .before)) (c .before .before .if1 .taken) ∙ unended-some input (l .at) (c .before .before .before .before .before .loop-test .taken)
+module _ (c : tie.After-print Inv-loop μ-loop) where
+  abbrev last-line : Ended
+  last-line = c .before .before .before
 
--- what is left is its refusal, and there is room for that
-unended-room : (c : tie.After-print Inv-loop μ-loop) → c .before .before .before .before .before .before .loop .to + length (printed (refused 1)) ≤ length (c .before .before .before .before .before .before .loop .out)
-unended-room c =
-    let l = c .before .before .before .before .before .before .loop in
-    omega (arith, left-fits _ _ _ (l .r) (l .out) (l .at) (l .to) (l .inv .0), ap length (unended c))
+  abbrev last : Turn
+  last = turn-of last-line
+
+  unended : transcript (last .loop .r) (split 10 (drop (last .loop .at) (Input last))) ≡ printed (refused 1)
+  unended =
+      transcript-last (last .loop .r) (Input last) (last .loop .at) _ (ended last-line) (c .before .before .if1 .taken)
+      ∙ unended-some (Input last) (last .loop .at) (last-line .before .before .loop-test .taken)
+
+  -- what is left is its refusal, and there is room for that
+  unended-room : last .loop .to + length (printed (refused 1)) ≤ length (last .loop .out)
+  unended-room = omega (arith, left-fits _ _ _ (last .loop .r) (last .loop .out) (last .loop .at) (last .loop .to) (last .loop .inv .0), ap length unended)
 
 add-result : tie.Need-add-result Inv-loop μ-loop
 add-result c =
-    let l = c .before .before .before .before .before .before .before .before .loop in
-    omega (arith, unended-room (c .before .before), answer-size (l .to) (refused 1) (l .out) (unended-room (c .before .before)) (c .before .before .print .ensures .0), below (c .before .before .before .before .before))
+    let p = c .before .before in
+    let l = last p .loop in
+    omega (arith, unended-room p, answer-size (l .to) (refused 1) (l .out) (unended-room p) (p .print .ensures .0), below (last-line p))
 
 same-length : tie.Need-same-length Inv-loop μ-loop
-same-length c = c .before .out .given .1 ∙ c .before .before .before .before .before .before .before .before .loop .inv .0 .kept
+same-length c = c .before .out .given .1 ∙ last (c .before .before) .loop .inv .0 .kept
 
 returns : tie.Need-returns Inv-loop μ-loop
 returns c =
     let p = c .before .before in
-    let l = p .before .before .before .before .before .before .loop in
+    let l = last p .loop in
     let e = unended p in
     let room = unended-room p in
     let count = answer-size (l .to) (refused 1) (l .out) room (p .print .ensures .0) in (
@@ -109,33 +208,38 @@ returns c =
 part-step-of-end : tie.Need-part-step-of-end Inv-loop μ-loop
 part-step-of-end c = omega (arith, whole (c .before))
 
-short : (s : tie.After-step-of Inv-loop μ-loop) → s .before .before .before .before .before .before .loop .at + s .before .before .before .count-before .result < length (s .before .before .before .before .before .before .before .before .before .before .before .before .args .input .now)
-short s = omega (arith, whole (s .before .before .before), s .before .before .if1 .left)
+short : (s : Told) → turned s .loop .at + ended-at s .count-before .result < length (Input (turned s))
+short s = omega (arith, whole (ended-at s), s .before .before .if1 .left, ended-at s .before .before .loop-test .taken)
 
-keeps : (s : tie.After-step-of Inv-loop μ-loop) → s .before .before .before .before .before .before .before .before .before .well-formed .result ≡ true → T (wellFormed (s .before .before .before .before .before .before .loop .r))
-keeps s e = true→T _ (sym (s .before .before .before .before .before .before .loop .inv .1) ∙ e)
+keeps : (s : Told) → formed-at (turned s) .well-formed .result ≡ true → T (wellFormed (turned s .loop .r))
+keeps s e = true→T _ (sym (turned s .loop .inv .1) ∙ e)
 
-abbrev Line : tie.After-step-of Inv-loop μ-loop → List ℕ
-Line s = take (s .before .before .before .before .before .before .loop .at + s .before .before .before .count-before .result - s .before .before .before .before .before .before .loop .at) (drop (s .before .before .before .before .before .before .loop .at) (s .before .before .before .before .before .before .before .before .before .before .before .before .args .input .now))
+abbrev Line : Told → List ℕ
+Line s = let l = turned s .loop in take (l .at + ended-at s .count-before .result - l .at) (drop (l .at) (Input (turned s)))
 
 -- the part of the output that the answer is printed into
-abbrev Rest : tie.After-step-of Inv-loop μ-loop → List ℕ
-Rest s = take (length (s .before .before .before .before .before .before .loop .out) - s .before .before .before .before .before .before .loop .to) (drop (s .before .before .before .before .before .before .loop .to) (s .before .before .before .before .before .before .loop .out))
+abbrev Rest : Told → List ℕ
+Rest s = let l = turned s .loop in take (length (l .out) - l .to) (drop (l .to) (l .out))
+
+-- the output with what was printed there put back
+abbrev Printed : Told → List ℕ → List ℕ
+Printed s last = let l = turned s .loop in putMid (l .to) (length (l .out) - l .to) (l .out) last
 
 -- a line answered o with the register next, of which m bytes are printed: no sum wraps, and the invariant goes on
-played : (s : tie.After-step-of Inv-loop μ-loop) (o : Outcome) (next : Register) (m : ℕ) (last : List ℕ)
-    → record { answer = o; after = next } ≡ lineEffect (s .before .before .before .before .before .before .loop .r) (Line s)
+played : (s : Told) (o : Outcome) (next : Register) (m : ℕ) (last : List ℕ)
+    → record { answer = o; after = next } ≡ lineEffect (turned s .loop .r) (Line s)
     → (m ≡ filled (printed o) (Rest s)) × (last ≡ printedInto (printed o) (Rest s))
-    → (s .before .before .before .before .before .before .loop .to + m < 18446744073709551616)
-    × (length (putMid (s .before .before .before .before .before .before .loop .to) (length (s .before .before .before .before .before .before .loop .out) - s .before .before .before .before .before .before .loop .to) (s .before .before .before .before .before .before .loop .out) last) ≡ length (s .before .before .before .before .before .before .loop .out)
-    → Playing (s .before .before .before .before .before .before .before .before .before .before .before .before .args .start) (s .before .before .before .before .before .before .before .before .before .before .before .before .args .input .now) (s .before .before .before .before .before .before .before .before .before .before .before .before .args .out .now) next (putMid (s .before .before .before .before .before .before .loop .to) (length (s .before .before .before .before .before .before .loop .out) - s .before .before .before .before .before .before .loop .to) (s .before .before .before .before .before .before .loop .out) last) (s .before .before .before .before .before .before .loop .at + s .before .before .before .count-before .result + 1) (s .before .before .before .before .before .before .loop .to + m)
-    × (s .before .before .before .before .before .before .before .before .before .well-formed .result ≡ wellFormed next))
+    → (turned s .loop .to + m < 18446744073709551616)
+    × (length (Printed s last) ≡ length (turned s .loop .out)
+    → (let l = turned s .loop in let a = start (turned s) .args in
+    Playing (a .start) (a .input .now) (a .out .now) next (Printed s last) (l .at + ended-at s .count-before .result + 1) (l .to + m))
+    × (formed-at (turned s) .well-formed .result ≡ wellFormed next))
 played s o next m last e p =
-    let l = s .before .before .before .before .before .before .loop in
-    let a = s .before .before .before .before .before .before .before .before .before .before .before .before .args in
-    let n = s .before .before .before .count-before .result in (
-      omega (arith, no-wrap (a .start) (a .input .now) (a .out .now) (l .r) (l .out) (l .at) (l .to) (l .inv .0) n (ended (s .before .before .before)) (short s) o next e m last p, below (s .before .before .before)),
-      λ same. (turn (a .start) (a .input .now) (a .out .now) (l .r) (l .out) (l .at) (l .to) (l .inv .0) n (ended (s .before .before .before)) (short s) o next e m last p same, formed-after (l .r) _ _ (l .inv .1) e),
+    let l = turned s .loop in
+    let a = start (turned s) .args in
+    let n = ended-at s .count-before .result in (
+      omega (arith, no-wrap (a .start) (a .input .now) (a .out .now) (l .r) (l .out) (l .at) (l .to) (l .inv .0) n (ended (ended-at s)) (short s) o next e m last p, below (ended-at s)),
+      λ same. (turn (a .start) (a .input .now) (a .out .now) (l .r) (l .out) (l .at) (l .to) (l .inv .0) n (ended (ended-at s)) (short s) o next e m last p same, formed-after (l .r) _ _ (l .inv .1) e),
     )
 
 add-at : tie.Need-add-at Inv-loop μ-loop
@@ -143,159 +247,218 @@ add-at c = omega (arith, short c)
 
 -- ---- refused whatever the register holds
 
-refuses : (s : tie.After-step-of Inv-loop μ-loop) (why : Refusal) → s .step-of .result ≡ Refuse why
-    → record { answer = refused (refusalNumber why); after = s .before .before .before .before .before .before .loop .r } ≡ lineEffect (s .before .before .before .before .before .before .loop .r) (Line s)
-refuses s why e = subst (Fits _ _) e (s .step-of .ensures) (s .before .before .before .before .before .before .loop .r) (sym (s .before .before .before .before .before .before .loop .inv .1))
+refuses : (c : tie.After-step Inv-loop μ-loop) → let s = told-1 c in
+    record { answer = refused (refusalNumber (c .step .given .0 .0)); after = turned s .loop .r } ≡ lineEffect (turned s .loop .r) (Line s)
+refuses c = let s = told-1 c in subst (Fits _ _) (c .step .given .1) (s .step-of .ensures) (turned s .loop .r) (sym (turned s .loop .inv .1))
 
 add-to : tie.Need-add-to Inv-loop μ-loop
-add-to c = omega (arith, played (c .before .before .before .before .before .before .before) _ _ _ _ (refuses (c .before .before .before .before .before .before .before) _ (c .before .before .before .before .before .step .given .1)) (c .before .before .print2 .ensures) .0)
+add-to c =
+    let p = c .before .before in
+    let at = refused-at p in
+    omega (arith, played (told-1 at) _ _ _ _ (refuses at) (p .print2 .ensures) .0)
 
 loop-less : tie.Need-loop-less Inv-loop μ-loop
-loop-less c = omega (arith, short (c .before .before .before .before .before .before .before))
+loop-less c = omega (arith, short (told-1 (refused-at (c .before .before))))
 
 loop-again : tie.Need-loop-again Inv-loop μ-loop
 loop-again c =
-    let s = c .before .before .before .before .before .before .before in
-    let l = s .before .before .before .before .before .before .loop in
-    let w = played s _ _ _ _ (refuses s _ (c .before .before .before .before .before .step .given .1)) (c .before .before .print2 .ensures) .1 (c .before .out2 .given .1) in
+    let p = c .before .before in
+    let at = refused-at p in
+    let l = turned (told-1 at) .loop in
+    let w = played (told-1 at) _ _ _ _ (refuses at) (p .print2 .ensures) .1 (c .before .out2 .given .1) in
     (w .0, w .1, l .inv .2, l .inv .3)
 
 -- ---- a check
 
-checks : (c : tie.After-answer-check Inv-loop μ-loop) →
-    let s = c .before .before .before .before .before .before .before .before .before .before in
-    record { answer = outcomeOf (c .answer-check .result); after = s .before .before .before .before .before .before .loop .r } ≡ lineEffect (s .before .before .before .before .before .before .loop .r) (Line s)
+checks : (c : tie.After-answer-check Inv-loop μ-loop) → let s = told-2 (check-at c) in
+    record { answer = outcomeOf (c .answer-check .result); after = turned s .loop .r } ≡ lineEffect (turned s .loop .r) (Line s)
 checks c =
-    let s = c .before .before .before .before .before .before .before .before .before .before in
-    let l = s .before .before .before .before .before .before .loop in
-    let fit = subst (Fits _ _) (c .before .before .before .before .before .before .before .before .step2 .given .1) (s .step-of .ensures) in
+    let at = check-at c in
+    let s = told-2 at in
+    let l = turned s .loop in
+    let fit = subst (Fits _ _) (at .step2 .given .1) (s .step-of .ensures) in
     let k = keeps s (fit .0) in
-    line-done (l .r) _ _ _ (fit .1) k (check-done (l .r) (l .permissions) _ _ _ _ _ k (l .inv .2) (c .before .before .before .before .before .role-held .ensures) (c .before .before .before .capability-held .ensures) (c .answer-check .ensures))
+    line-done (l .r) _ _ _ (fit .1) k
+    (check-done (l .r) (l .authorities) _ _ _ _ _ k (l .inv .2) (role-held c .role-held .ensures, capability-held c .capability-held .ensures) (omega (arith, capability-held c .capability-held)) (c .answer-check .ensures))
 
 add-to-2 : tie.Need-add-to-2 Inv-loop μ-loop
-add-to-2 c = omega (arith, played (c .before .before .before .before .before .before .before .before .before .before .before .before .before .before) _ _ _ _ (checks (c .before .before .before .before)) (c .before .before .print3 .ensures) .0)
+add-to-2 c =
+    let p = c .before .before in
+    let a = p .before .before in
+    omega (arith, played (told-2 (check-at a)) _ _ _ _ (checks a) (p .print3 .ensures) .0)
 
 loop-less-2 : tie.Need-loop-less-2 Inv-loop μ-loop
-loop-less-2 c = omega (arith, short (c .before .before .before .before .before .before .before .before .before .before .before .before .before .before))
+loop-less-2 c = omega (arith, short (told-2 (check-at (c .before .before .before .before))))
 
 loop-again-2 : tie.Need-loop-again-2 Inv-loop μ-loop
 loop-again-2 c =
-    let s = c .before .before .before .before .before .before .before .before .before .before .before .before .before .before in
-    let l = s .before .before .before .before .before .before .loop in
-    let w = played s _ _ _ _ (checks (c .before .before .before .before)) (c .before .before .print3 .ensures) .1 (c .before .out3 .given .1) in
+    let p = c .before .before in
+    let a = p .before .before in
+    let s = told-2 (check-at a) in
+    let l = turned s .loop in
+    let w = played s _ _ _ _ (checks a) (p .print3 .ensures) .1 (c .before .out3 .given .1) in
     (w .0, w .1, l .inv .2, l .inv .3)
 
 -- ---- a call over the whole tree
 
 order-of-requires : tie.Need-order-of-requires Inv-loop μ-loop
-order-of-requires c κs = keeps (c .before .before .before) (subst (Fits _ _) (c .before .step3 .given .1) (c .before .before .before .step-of .ensures) .0)
+order-of-requires c κs = let at = c .before in keeps (told-3 at) (subst (Fits _ _) (at .step3 .given .1) (told-3 at .step-of .ensures) .0)
 
-orders : (c : tie.After-order-of Inv-loop μ-loop) →
-    let s = c .before .before .before .before in
-    orderEffect (s .before .before .before .before .before .before .loop .r) (c .order-of .result) ≡ lineEffect (s .before .before .before .before .before .before .loop .r) (Line s)
+orders : (c : tie.After-order-of Inv-loop μ-loop) → let s = told-3 (tree-at c) in
+    orderEffect (turned s .loop .r) (c .order-of .result) ≡ lineEffect (turned s .loop .r) (Line s)
 orders c =
-    let s = c .before .before .before .before in
-    let fit = subst (Fits _ _) (c .before .before .step3 .given .1) (s .step-of .ensures) in
-    line-done (s .before .before .before .before .before .before .loop .r) _ _ _ (fit .1) (keeps s (fit .0)) (c .order-of .ensures)
+    let at = tree-at c in
+    let s = told-3 at in
+    let fit = subst (Fits _ _) (at .step3 .given .1) (s .step-of .ensures) in
+    line-done (turned s .loop .r) _ _ _ (fit .1) (keeps s (fit .0)) (c .order-of .ensures)
+
+-- answered with the register as it is
+answers : (c : tie.After-order Inv-loop μ-loop) → let s = told-3 (tree-at (c .before .before)) in
+    record { answer = outcomeOf (c .order .given .0 .0); after = turned s .loop .r } ≡ lineEffect (turned s .loop .r) (Line s)
+answers c =
+    let o = c .before .before in
+    ap (orderEffect (turned (told-3 (tree-at o)) .loop .r)) (sym (c .order .given .1)) ∙ orders o
 
 add-to-3 : tie.Need-add-to-3 Inv-loop μ-loop
 add-to-3 c =
-    let s = c .before .before .before .before .before .before .before .before .before .before .before in
-    omega (arith, played s _ _ _ _ (ap (orderEffect (s .before .before .before .before .before .before .loop .r)) (sym (c .before .before .before .before .before .order .given .1)) ∙ orders (c .before .before .before .before .before .before .before)) (c .before .before .print4 .ensures) .0)
+    let p = c .before .before in
+    let at = answered-at p in
+    omega (arith, played (told-3 (tree-at (at .before .before))) _ _ _ _ (answers at) (p .print4 .ensures) .0)
 
 loop-less-3 : tie.Need-loop-less-3 Inv-loop μ-loop
-loop-less-3 c = omega (arith, short (c .before .before .before .before .before .before .before .before .before .before .before))
+loop-less-3 c = omega (arith, short (told-3 (tree-at (answered-at (c .before .before) .before .before))))
 
 loop-again-3 : tie.Need-loop-again-3 Inv-loop μ-loop
 loop-again-3 c =
-    let s = c .before .before .before .before .before .before .before .before .before .before .before in
-    let l = s .before .before .before .before .before .before .loop in
-    let w = played s _ _ _ _ (ap (orderEffect (l .r)) (sym (c .before .before .before .before .before .order .given .1)) ∙ orders (c .before .before .before .before .before .before .before)) (c .before .before .print4 .ensures) .1 (c .before .out4 .given .1) in
+    let p = c .before .before in
+    let at = answered-at p in
+    let s = told-3 (tree-at (at .before .before)) in
+    let l = turned s .loop in
+    let w = played s _ _ _ _ (answers at) (p .print4 .ensures) .1 (c .before .out4 .given .1) in
     (w .0, w .1, l .inv .2, l .inv .3)
 
 -- the register swept
 sweep-all-requires : tie.Need-sweep-all-requires Inv-loop μ-loop
 sweep-all-requires c κs =
-    let s = c .before .before .before .before .before .before .before in
-    kept→ (s .before .before .before .before .before .before .loop .r) (keeps s (subst (Fits _ _) (c .before .before .before .before .before .step3 .given .1) (s .step-of .ensures) .0)) .roles .amount
+    let at = tree-at (c .before .before .before) in
+    let s = told-3 at in
+    kept→ (turned s .loop .r) (keeps s (subst (Fits _ _) (at .step3 .given .1) (s .step-of .ensures) .0)) .roles .amount
 
-sweeps : (c : tie.After-sweep-all Inv-loop μ-loop) →
-    let s = c .before .before .before .before .before .before .before .before in
-    record { answer = outcomeOf (c .sweep-all .result .answer); after = c .sweep-all .result .register } ≡ lineEffect (s .before .before .before .before .before .before .loop .r) (Line s)
+sweeps : (c : tie.After-sweep-all Inv-loop μ-loop) → let s = told-3 (tree-at (swept-at c .before .before)) in
+    record { answer = outcomeOf (c .sweep-all .result .answer); after = c .sweep-all .result .register } ≡ lineEffect (turned s .loop .r) (Line s)
 sweeps c =
-    let s = c .before .before .before .before .before .before .before .before in
-    c .sweep-all .ensures ∙ ap (orderEffect (s .before .before .before .before .before .before .loop .r)) (sym (c .before .before .order2 .given .1)) ∙ orders (c .before .before .before .before)
+    let o = swept-at c .before .before in
+    c .sweep-all .ensures ∙ ap (orderEffect (turned (told-3 (tree-at o)) .loop .r)) (sym (swept-at c .order2 .given .1)) ∙ orders o
 
 add-to-4 : tie.Need-add-to-4 Inv-loop μ-loop
-add-to-4 c = omega (arith, played (c .before .before .before .before .before .before .before .before .before .before .before .before) _ _ _ _ (sweeps (c .before .before .before .before)) (c .before .before .print5 .ensures) .0)
+add-to-4 c =
+    let p = c .before .before in
+    let w = p .before .before in
+    omega (arith, played (told-3 (tree-at (swept-at w .before .before))) _ _ _ _ (sweeps w) (p .print5 .ensures) .0)
 
 loop-less-4 : tie.Need-loop-less-4 Inv-loop μ-loop
-loop-less-4 c = omega (arith, short (c .before .before .before .before .before .before .before .before .before .before .before .before .before .before .before))
+loop-less-4 c =
+    let p = c .before .before .before .before .before in
+    omega (arith, short (told-3 (tree-at (swept-at (p .before .before) .before .before))))
 
 loop-again-4 : tie.Need-loop-again-4 Inv-loop μ-loop
 loop-again-4 c =
-    let w = played (c .before .before .before .before .before .before .before .before .before .before .before .before .before .before .before) _ _ _ _ (sweeps (c .before .before .before .before .before .before .before)) (c .before .before .before .before .before .print5 .ensures) .1 (c .before .before .before .before .out5 .given .1) in
-    (w .0, w .1, c .permissions-of2 .ensures, search needs)
+    let out = c .before .before .before .before in
+    let p = out .before in
+    let z = p .before .before in
+    let w = played (told-3 (tree-at (swept-at z .before .before))) _ _ _ _ (sweeps z) (p .print5 .ensures) .1 (out .out5 .given .1) in
+    (w .0, w .1, c .authorities-of2 .ensures, search needs)
 
 -- ---- a call that changes only elements that it names
 
-ones : (c : tie.After-decide Inv-loop μ-loop) →
-    let s = c .before .before .before .before .before .before .before .before .before .before .before .before .before .before .before .before .before in
-    lifted (s .before .before .before .before .before .before .loop .r) (placed (s .before .before .before .before .before .before .loop .r) (c .before .before .before .before .before .before .before .before .before .before .before .before .before .names-of .result) (c .before .before .before .before .user-at .result) (c .before .before .before .before .before .before .before .before .before .before .before .before .session-at .result) (c .before .before .before .before .before .before .before .before .before .before .capability-at .result) (c .before .before .before .before .before .before .before .before .role-at .result) (c .before .before .before .before .before .before .parent-at .result)) (ruledOf (c .decide .result))
-    ≡ lineEffect (s .before .before .before .before .before .before .loop .r) (Line s)
-ones c =
-    let s = c .before .before .before .before .before .before .before .before .before .before .before .before .before .before .before .before .before in
-    let l = s .before .before .before .before .before .before .loop in
-    let user = c .before .before .before .before .user-at in
-    let parent = c .before .before .before .before .before .before .parent-at in
-    let role = c .before .before .before .before .before .before .before .before .role-at in
-    let capability = c .before .before .before .before .before .before .before .before .before .before .capability-at in
-    let session = c .before .before .before .before .before .before .before .before .before .before .before .before .session-at in
-    let names = c .before .before .before .before .before .before .before .before .before .before .before .before .before .names-of in
-    let request = c .before .before .before .before .before .before .before .before .before .before .before .before .before .before .before .step4 .given in
-    let fit = subst (Fits _ _) (request .1) (s .step-of .ensures) in
-    let k = keeps s (fit .0) in
-    line-done (l .r) _ _ _ (fit .1) k
-    (commit (l .r) (names .result) (user .result) (session .result) (capability .result) (role .result) (parent .result) (l .permissions) (request .0 .0) _ (c .decide .result) k (l .inv .2) (names .ensures)
-    (record { user = user .ensures .0; session = session .ensures .0; capability = capability .ensures .0; role = role .ensures .0; parent = parent .ensures .0 })
-    (c .before .before .seen .ensures) (c .decide .ensures))
+module _ (d : Decided) where
+  abbrev told-one : Told
+  told-one = told-4 (one-at d)
+
+  abbrev now-one : Turn
+  now-one = turned told-one
+
+  abbrev Where : Places
+  Where = placed (now-one .loop .r) (names d .names-of .result) (user d .user-at .result) (session d .session-at .result) (capability d .capability-at .result) (role d .role-at .result) (parent d .parent-at .result)
+
+  ones : lifted (now-one .loop .r) Where (ruledOf (d .decide .result)) ≡ lineEffect (now-one .loop .r) (Line told-one)
+  ones =
+      let l = now-one .loop in
+      let fit = subst (Fits _ _) (one-at d .step4 .given .1) (told-one .step-of .ensures) in
+      let k = keeps told-one (fit .0) in
+      line-done (l .r) _ _ _ (fit .1) k
+      (commit (l .r) (names d .names-of .result) _ _ _ _ _ (l .authorities) (one-at d .step4 .given .0 .0) _ (d .decide .result) k (l .inv .2) (names d .names-of .ensures)
+      (record {
+        user = user d .user-at .ensures .0;
+        session = session d .session-at .ensures .0;
+        capability = capability d .capability-at .ensures .0;
+        role = role d .role-at .ensures .0;
+        parent = parent d .parent-at .ensures .0;
+      })
+      (d .before .before .seen .ensures) (d .decide .ensures))
+
+  -- each place is within the register
+  role-in : role d .role-at .result < 32
+  role-in = role d .role-at .ensures .1
+
+  parent-in : parent d .parent-at .result < 256
+  parent-in = parent d .parent-at .ensures .1
+
+  capability-in : capability d .capability-at .result < 256
+  capability-in = capability d .capability-at .ensures .1
+
+  session-in : session d .session-at .result < 64
+  session-in = session d .session-at .ensures .1
 
 add-to-5 : tie.Need-add-to-5 Inv-loop μ-loop
 unfolding put
-add-to-5 c = omega (arith, played (c .before .before .before .before .before .before .before .before .before .before .before .before .before .before .before .before .before .before .before .before .before) _ _ _ _ (ones (c .before .before .before .before)) (c .before .before .print6 .ensures) .0)
+add-to-5 c =
+    let p = c .before .before in
+    let d = p .before .before in
+    omega (arith, played (told-one d) _ _ _ _ (ones d) (p .print6 .ensures) .0)
 
--- the places are within the register
-mul-x-4 : tie.Need-mul-x-4 Inv-loop μ-loop
-mul-x-4 c = omega (arith, c .before .before .before .before .before .before .before .before .before .before .before .before .before .parent-at .ensures .1)
+-- what was decided, from the last element that is put back
+abbrev decided : tie.After-x6 Inv-loop μ-loop → tie.After-print6 Inv-loop μ-loop
+decided c = c .before .before .before .before .before .before .before
 
-element-set-from-x-2 : tie.Need-element-set-from-x-2 Inv-loop μ-loop
-element-set-from-x-2 c = omega (arith, c .before .before .before .before .before .before .before .before .before .before .before .before .before .parent-at .ensures .1)
-
-mul-x-5 : tie.Need-mul-x-5 Inv-loop μ-loop
-mul-x-5 c = omega (arith, c .before .before .before .before .before .before .before .before .before .before .before .before .before .before .before .before .before .before .capability-at .ensures .1)
-
-element-set-from-x-3 : tie.Need-element-set-from-x-3 Inv-loop μ-loop
-element-set-from-x-3 c = omega (arith, c .before .before .before .before .before .before .before .before .before .before .before .before .before .before .before .before .before .before .capability-at .ensures .1)
-
-mul-x-6 : tie.Need-mul-x-6 Inv-loop μ-loop
-mul-x-6 c = omega (arith, c .before .before .before .before .before .before .before .before .before .before .before .before .before .before .before .before .before .before .before .before .before .session-at .ensures .1)
-
-element-set-from-x-4 : tie.Need-element-set-from-x-4 Inv-loop μ-loop
-element-set-from-x-4 c = omega (arith, c .before .before .before .before .before .before .before .before .before .before .before .before .before .before .before .before .before .before .before .before .before .session-at .ensures .1)
+-- the invariant after the elements are put back
+put-on : (c : tie.After-x6 Inv-loop μ-loop) →
+    let p = decided c in
+    let d = p .before .before in
+    let s = told-one d in
+    let l = turned s .loop in
+    let a = start (turned s) .args in
+    Playing (a .start) (a .input .now) (a .out .now) (put (l .r) (Where d) (d .decide .result .slots)) (Printed s (p .print6 .last .0)) (l .at + ended-at s .count-before .result + 1) (l .to + p .print6 .result)
+    × (formed-at (turned s) .well-formed .result ≡ wellFormed (put (l .r) (Where d) (d .decide .result .slots)))
+put-on c =
+    let p = decided c in
+    let d = p .before .before in
+    played (told-one d) _ _ _ _ (ones d) (p .print6 .ensures) .1 (c .before .before .before .before .before .before .out6 .given .1)
 
 loop-less-5 : tie.Need-loop-less-5 Inv-loop μ-loop
-loop-less-5 c = omega (arith, short (c .before .before .before .before .before .before .before .before .before .before .before .before .before .before .before .before .before .before .before .before .before .before .before .before .before .before))
+loop-less-5 c = omega (arith, short (told-one (decided (c .before .before .before .before) .before .before)))
 
 loop-again-5 : tie.Need-loop-again-5 Inv-loop μ-loop
 unfolding put
 loop-again-5 c =
-    let d = c .before .before .before .before .before .before .before .before .before in
-    let s = d .before .before .before .before .before .before .before .before .before .before .before .before .before .before .before .before .before in
-    let l = s .before .before .before .before .before .before .loop in
-    let w = played s _ _ _ _ (ones d) (c .before .before .before .before .before .before .before .print6 .ensures) .1 (c .before .before .before .before .before .before .out6 .given .1) in
-    let fit = subst (Fits _ _) (d .before .before .before .before .before .before .before .before .before .before .before .before .before .before .before .step4 .given .1) (s .step-of .ensures) in
-    let roles : length (l .r .roles) ≡ 32 = kept→ (l .r) (keeps s (fit .0)) .roles .amount in
-    (w .0, w .1, column-put (l .permissions) (l .r .roles) _ _ (l .inv .2) (l .inv .3) roles (d .before .before .before .before .before .before .before .before .role-at .ensures .1), length-set (l .permissions) _ _ ∙ l .inv .3)
+    let w = put-on (c .before .before .before .before) in
+    (w .0, w .1, c .authorities-of3 .ensures, search needs)
+
+loop-less-6 : tie.Need-loop-less-6 Inv-loop μ-loop
+loop-less-6 c = omega (arith, short (told-one (decided (c .before .before) .before .before)))
+
+-- no role has changed, and the column stays
+loop-again-6 : tie.Need-loop-again-6 Inv-loop μ-loop
+unfolding put
+loop-again-6 c =
+    let x = c .before .before in
+    let w = put-on x in
+    let d = decided x .before .before in
+    let l = now-one d .loop in
+    let q = one-at d .step4 .given .0 .0 in
+    let same = ap (λ (m : Names). changesRole (m .follow)) (sym (names d .names-of .ensures)) ∙ sym (c .before .changes-role .ensures) ∙ c .if2 .left in
+    let e = d .decide .ensures ∙ ap (λ (v : Slots). decideOf v (l .authorities) q) (d .before .before .seen .ensures) in
+    (w .0, w .1, column-kept (l .r) (Where d) (l .authorities) q (d .decide .result) (l .inv .2) e same, l .inv .3)
 
 -- ---- the end
 
@@ -305,11 +468,10 @@ same-length-2 c = c .before .loop .inv .0 .kept
 returns-2 : tie.Need-returns-2 Inv-loop μ-loop
 returns-2 c =
     let l = c .before .loop in
-    let a = c .before .before .before .before .before .before .before .args in
-    let e = transcript-done (l .r) (a .input .now) (l .at) (c .loop-test .left) in (
+    let e = transcript-done (l .r) (Input (c .before)) (l .at) (c .loop-test .left) in (
       omega (arith, ap length e, l .inv .0 .size),
       sym (placed-nil (l .to) (l .out)) ∙ (rw e at (l .inv .0 .text)),
-      omega (arith, to-within _ _ _ _ _ _ _ (l .inv .0), l .inv .0 .kept),
+      omega (arith, within (c .before), l .inv .0 .kept),
     )
 
 pub play-spec : {M : Type 1} → statement M
@@ -322,8 +484,8 @@ play-spec =
     loop-holds
     (λ c. search needs) (λ c. search needs) (λ c. search needs) (λ c κs. search needs)
     add-end
-    (λ c. within (c .before))
-    (λ c. within (c .before))
+    (λ c. within (turn-of (c .before)))
+    (λ c. within (turn-of (c .before)))
     (λ c. search needs) (λ c κs. search needs)
     add-result
     same-length
@@ -333,8 +495,8 @@ play-spec =
     (λ c κs. search needs)
     add-at
     (λ c. search needs)
-    (λ c. within (c .before .before .before .before .before .before))
-    (λ c. within (c .before .before .before .before .before .before))
+    (λ c. within (turned (told-1 (c .before))))
+    (λ c. within (turned (told-1 (c .before))))
     (λ c. search needs) (λ c κs. search needs)
     add-to
     loop-less
@@ -342,8 +504,8 @@ play-spec =
     (λ c. search needs) (λ c. search needs) (λ c. search needs) (λ c. search needs) (λ c κs. search needs) (λ c. search needs)
     (λ c. search needs) (λ c. search needs) (λ c κs. search needs) (λ c. search needs) (λ c. search needs) (λ c. search needs)
     (λ c κs. search needs)
-    (λ c. within (c .before .before .before .before .before .before .before .before .before .before .before .before .before))
-    (λ c. within (c .before .before .before .before .before .before .before .before .before .before .before .before .before))
+    (λ c. within (turned (told-2 (check-at c))))
+    (λ c. within (turned (told-2 (check-at c))))
     (λ c. search needs) (λ c κs. search needs)
     add-to-2
     loop-less-2
@@ -351,16 +513,16 @@ play-spec =
     (λ c. search needs)
     order-of-requires
     (λ c. search needs)
-    (λ c. within (c .before .before .before .before .before .before .before .before .before .before))
-    (λ c. within (c .before .before .before .before .before .before .before .before .before .before))
+    (λ c. within (turned (told-3 (tree-at (c .before .before .before)))))
+    (λ c. within (turned (told-3 (tree-at (c .before .before .before)))))
     (λ c. search needs) (λ c κs. search needs)
     add-to-3
     loop-less-3
     loop-again-3
     (λ c. search needs)
     sweep-all-requires
-    (λ c. within (c .before .before .before .before .before .before .before .before .before .before .before))
-    (λ c. within (c .before .before .before .before .before .before .before .before .before .before .before))
+    (λ c. within (turned (told-3 (tree-at (swept-at c .before .before)))))
+    (λ c. within (turned (told-3 (tree-at (swept-at c .before .before)))))
     (λ c. search needs) (λ c κs. search needs)
     add-to-4
     (λ c κs. search needs)
@@ -369,18 +531,20 @@ play-spec =
     (λ c. search needs) (λ c κs. search needs) (λ c κs. search needs) (λ c. search needs) (λ c. search needs) (λ c κs. search needs)
     (λ c. search needs) (λ c. search needs) (λ c κs. search needs) (λ c. search needs) (λ c. search needs) (λ c κs. search needs)
     (λ c. search needs) (λ c. search needs) (λ c κs. search needs) (λ c. search needs) (λ c κs. search needs) (λ c κs. search needs)
-    (λ c. within (c .before .before .before .before .before .before .before .before .before .before .before .before .before .before .before .before .before .before .before .before))
-    (λ c. within (c .before .before .before .before .before .before .before .before .before .before .before .before .before .before .before .before .before .before .before .before))
+    (λ c. within (now-one c))
+    (λ c. within (now-one c))
     (λ c. search needs) (λ c κs. search needs)
     add-to-5
-    (λ c. search needs) (λ c. search needs) (λ c. search needs) (λ c. search needs) (λ c. search needs)
-    mul-x-4
-    element-set-from-x-2
-    mul-x-5
-    element-set-from-x-3
-    mul-x-6
-    element-set-from-x-4
+    (λ c. search needs)
+    (λ c. omega (arith, role-in (c .before .before .before .before .before .before))) (λ c. omega (arith, role-in (c .before .before .before .before .before .before)))
+    (λ c. omega (arith, parent-in (c .before .before .before .before .before .before .before))) (λ c. omega (arith, parent-in (c .before .before .before .before .before .before .before)))
+    (λ c. omega (arith, capability-in (c .before .before .before .before .before .before .before .before)))
+    (λ c. omega (arith, capability-in (c .before .before .before .before .before .before .before .before)))
+    (λ c. omega (arith, session-in (decided c .before .before))) (λ c. omega (arith, session-in (decided c .before .before)))
+    (λ c κs. search needs) (λ c κs. search needs)
     loop-less-5
     loop-again-5
+    loop-less-6
+    loop-again-6
     same-length-2
     returns-2)

@@ -1,17 +1,18 @@
+-- `sessions::decide_close` meets its contract.
 use borrow.Author.Needs.{needs}
+use mathlib.Core.Path.{refl, ap}
+use Rattle.model.specs.declared.Session.{Session}
+use Rattle.slots.specs.Slots.{withSessionSlots}
 use Rattle.sessions.specs.Sessions.{closeDecision}
-use Rattle.slots.proofs.CheckLaws.{refuse-ruled, pass-ruled}
 use Rattle.sessions.proofs.decide_close.Statement.{statement}
 use Rattle.sessions.proofs.decide_close.Tie as tie
 
 returns : tie.Need-returns
 unfolding closeDecision
-returns c = refuse-ruled _ _ _ _ _ (c .before .before .before .close-check .ensures) (c .before .k .given .1)
-
-returns-2 : tie.Need-returns-2
-unfolding closeDecision
-returns-2 c = pass-ruled _ _ _ _ _ tt (c .before .before .close-check .ensures) (c .enum-told .given .1)
+returns c =
+    let k = c .before .before in
+    let v = k .before .before .args .v in
+    c .settle .ensures _ 0 _ tt (k .close-guards .ensures) (λ g. (refl, ap (λ (x : Session). withSessionSlots v (v .capability) x) (c .before .blank-session .ensures)))
 
 pub decide-close-spec : {M : Type 1} → statement M
-decide-close-spec =
-    tie.close (tie.spec (λ c κs. search needs) (λ c. search needs) (λ c. search needs) returns returns-2)
+decide-close-spec = tie.close (tie.spec (λ c κs. search needs) (λ c κs. search needs) (λ c κs. search needs) returns)

@@ -3,7 +3,7 @@ use borrow.Author.Needs.{needs}
 use mathlib.Core.Path.{_≡_, _∙_}
 use Prim.Native.Nat.{min}
 use native.Mathlib.Omega.{arith}
-use Rattle.slots.proofs.CheckLaws.{cond-false}
+use Rattle.masks.proofs.Truth.{cond-false}
 use Rattle.sweeps.proofs.limit_for.Statement.{statement}
 use Rattle.sweeps.proofs.limit_for.Tie as tie
 

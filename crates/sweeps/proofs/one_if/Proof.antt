@@ -1,6 +1,6 @@
 -- `sweeps::one_if` meets its contract.
 use Rattle.sweeps.specs.Sweeping.{oneIf}
-use Rattle.slots.proofs.CheckLaws.{cond-true, cond-false}
+use Rattle.masks.proofs.Truth.{cond-true, cond-false}
 use Rattle.sweeps.proofs.one_if.Statement.{statement}
 use Rattle.sweeps.proofs.one_if.Tie as tie
 

@@ -13,13 +13,13 @@ use Rattle.sweeps.proofs.sweep_all.Statement.{statement}
 use Rattle.sweeps.proofs.sweep_all.Tie as tie
 
 abbrev Inv-loop : tie.InvT-loop
-Inv-loop s permissions next₀ marks₀ i₀ next marks i =
+Inv-loop s authorities next₀ marks₀ i₀ next marks i =
     (i ≤ 256) × (marks ≤ i)
     × (next ≡ withCapabilities next₀ (rising blankCapability (sweepOne (next₀ .roles) s) i (next₀ .capabilities)))
     × (marks ≡ countBelow i (newlyBy (sweepOne (next₀ .roles) s) (next₀ .capabilities)))
 
 abbrev μ-loop : tie.MeasureT-loop
-μ-loop s permissions next₀ marks₀ i₀ next marks i = 256 - i
+μ-loop s authorities next₀ marks₀ i₀ next marks i = 256 - i
 
 loop-holds : tie.Need-loop-holds Inv-loop μ-loop
 unfolding rising countBelow
@@ -38,7 +38,7 @@ loop-again c =
     let a = g .before .before .roles-after in
     let s = g .before .before .before .before in
     let amount : length (a .result) ≡ 32 = ap length (a .ensures) ∙ after-amount (s .args .r .roles) (s .args .s) ∙ s .pre in
-    let d = swept-step _ (l .next .capabilities) _ (g .before .permissions-of .ensures) amount (s .args .s) (l .i) _ _ (w .before .before .before .parent-of .ensures) (w .swept .ensures) in (
+    let d = swept-step _ (l .next .capabilities) _ (g .before .authorities-of .ensures) amount (s .args .s) (l .i) _ _ (w .before .before .before .capability-held .ensures) (w .swept .ensures) in (
       search needs,
       omega (arith, l .inv .1, one-le _ (c .one-if .ensures)),
       sweep-more _ _ (l .next) (l .i) _ (l .inv .2) d,
@@ -50,7 +50,7 @@ returns c =
     let g = c .before .before in
     let l = g .loop in
     let s = g .before .before .before .before in
-    sweep-done (s .args .r) (s .args .s) _ (l .next) (l .marks) (l .i) _ (g .before .before .roles-after .ensures) (l .inv .2) (l .inv .3) (omega arith) (c .value-of .ensures)
+    sweep-done (s .args .r) (s .args .s) _ (l .next) (l .marks) (l .i) _ (g .before .before .roles-after .ensures) (l .inv .2) (l .inv .3) (omega arith) (c .sweep-value .ensures)
 
 pub sweep-all-spec : {M : Type 1} → statement M
 sweep-all-spec =

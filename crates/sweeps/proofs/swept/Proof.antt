@@ -1,17 +1,31 @@
 -- `sweeps::swept` meets its contract.
 use borrow.Author.Needs.{needs}
-use mathlib.Core.Path.{_∙_}
+use mathlib.Core.Bool.{Bool, _||_}
+use mathlib.Core.Path.{ap, _∙_}
+use Prim.Native.Nat.{ℕ}
+use Rattle.model.specs.State.{Terms}
 use Rattle.sweeps.proofs.swept.Statement.{statement}
 use Rattle.sweeps.proofs.swept.Tie as tie
 
 returns : tie.Need-returns
-returns c = rw (c .before .before .s .given .1) (c .marked .ensures)
+returns c =
+    let up = c .before in
+    rw (up .before .before .s .given .1, ← ap (λ (t : Terms). t .revoked) (up .bare-allowance .ensures)) (c .marked .ensures)
 
 returns-2 : tie.Need-returns-2
-returns-2 c = rw (c .before .before .s2 .given .1) (c .limited .ensures)
+returns-2 c =
+    let up = c .before in
+    rw (up .before .before .s2 .given .1, ← ap (λ (t : Terms). t .use-limit) (up .bare-allowance2 .ensures)) (c .limited .ensures)
 
 returns-3 : tie.Need-returns-3
-returns-3 c = rw (c .before .before .enum-told .given .1, ← c .before .parent-grants .ensures) (c .cut .ensures)
+returns-3 c = rw (c .before .before .enum-told .given .1, ← c .before .granted-by .ensures) (c .cut .ensures)
 
 pub swept-spec : {M : Type 1} → statement M
-swept-spec = tie.close (tie.spec (λ c. search needs) (λ c. search needs) (λ c κs. search needs) (λ c. search needs) (λ c. search needs) (λ c κs. search needs) (λ c. search needs) (λ c κs. search needs) (λ c κs. search needs) returns returns-2 returns-3)
+swept-spec =
+    tie.close
+    (tie.spec
+    (λ c. search needs) (λ c κs. search needs) (λ c. search needs) (λ c κs. search needs) (λ c. search needs) (λ c κs. search needs)
+    (λ c. search needs) (λ c κs. search needs) (λ c. search needs) (λ c κs. search needs) (λ c κs. search needs)
+    returns
+    returns-2
+    returns-3)

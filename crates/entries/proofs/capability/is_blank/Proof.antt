@@ -1,8 +1,7 @@
 -- `entries::capability::is_blank` meets its contract.
--- Assumes nothing.
 use borrow.Author.Needs.{needs}
 use Rattle.model.specs.Rules.{capabilityBlank, capabilityBlankTests}
-use Rattle.entries.proofs.Laws.{left-each}
+use Rattle.masks.proofs.Truth.{left-each}
 use Rattle.entries.proofs.capability.is_blank.Statement.{statement}
 use Rattle.entries.proofs.capability.is_blank.Tie as tie
 

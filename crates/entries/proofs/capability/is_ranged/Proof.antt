@@ -1,5 +1,4 @@
 -- `entries::capability::is_ranged` meets its contract.
--- Assumes nothing.
 use mathlib.Core.List.{[], _∷_}
 use Prim.Native.Nat.{_^_}
 use native.Mathlib.Omega.{arith}
@@ -7,7 +6,7 @@ use lib.Dec.{ltb}
 use borrow.Author.Needs.{needs}
 use borrow.Author.Tests.{lt-ltb}
 use Rattle.model.specs.Rules.{inRange, isOrigin}
-use Rattle.entries.proofs.Laws.{left-each}
+use Rattle.masks.proofs.Truth.{left-each}
 use Rattle.entries.proofs.capability.is_ranged.Statement.{statement}
 use Rattle.entries.proofs.capability.is_ranged.Tie as tie
 

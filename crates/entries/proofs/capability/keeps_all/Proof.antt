@@ -1,10 +1,9 @@
 -- `entries::capability::keeps_all` meets its contract.
--- Assumes nothing.
 use borrow.Author.Needs.{needs}
 use Rattle.masks.specs.Masks.{within}
-use Rattle.parties.specs.Terms.{termsIn}
+use Rattle.origins.specs.Terms.{termsIn}
 use Rattle.entries.specs.Limits.{capabilityWith}
-use Rattle.entries.proofs.Laws.{left-each}
+use Rattle.masks.proofs.Truth.{left-each}
 use Rattle.entries.proofs.capability.keeps_all.Statement.{statement}
 use Rattle.entries.proofs.capability.keeps_all.Tie as tie
 

@@ -1,10 +1,9 @@
 -- `entries::limits::is_below` meets its contract.
--- Assumes nothing.
 use Rattle.masks.specs.Masks.{within}
 use Rattle.model.specs.State.{belowTests, claims}
 use Rattle.model.specs.State.{below}
-use Rattle.parties.specs.Terms.{termsIn}
-use Rattle.entries.proofs.Laws.{left-each}
+use Rattle.origins.specs.Terms.{termsIn}
+use Rattle.masks.proofs.Truth.{left-each}
 use Rattle.entries.proofs.limits.is_below.Statement.{statement}
 use Rattle.entries.proofs.limits.is_below.Tie as tie
 

@@ -1,5 +1,4 @@
 -- `entries::limits::is_earlier` meets its contract.
--- Assumes nothing.
 use borrow.Author.Needs.{needs}
 use Rattle.model.specs.Rules.{earlier}
 use Rattle.entries.proofs.limits.is_earlier.Statement.{statement}

@@ -1,5 +1,4 @@
 -- `entries::limits::is_origin` meets its contract.
--- Assumes nothing.
 use borrow.Author.Needs.{needs}
 use Rattle.entries.proofs.limits.is_origin.Statement.{statement}
 use Rattle.entries.proofs.limits.is_origin.Tie as tie

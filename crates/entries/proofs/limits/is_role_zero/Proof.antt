@@ -1,5 +1,4 @@
 -- `entries::limits::is_role_zero` meets its contract.
--- Assumes nothing.
 use borrow.Author.Needs.{needs}
 use Rattle.entries.proofs.limits.is_role_zero.Statement.{statement}
 use Rattle.entries.proofs.limits.is_role_zero.Tie as tie

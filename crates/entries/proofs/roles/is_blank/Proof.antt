@@ -1,7 +1,6 @@
 -- `entries::roles::is_blank` meets its contract.
--- Assumes nothing.
 use Rattle.model.specs.Rules.{roleBlank, roleBlankTests}
-use Rattle.entries.proofs.Laws.{left-each}
+use Rattle.masks.proofs.Truth.{left-each}
 use Rattle.entries.proofs.roles.is_blank.Statement.{statement}
 use Rattle.entries.proofs.roles.is_blank.Tie as tie
 

@@ -1,12 +1,11 @@
 -- `entries::roles::keeps_all` meets its contract.
--- Assumes nothing.
 use mathlib.Core.List.{[], _∷_}
 use Prim.Native.Nat.{_^_}
 use native.Mathlib.Omega.{arith}
 use lib.Dec.{ltb}
 use borrow.Author.Tests.{lt-ltb}
 use Rattle.masks.specs.Masks.{within}
-use Rattle.entries.proofs.Laws.{left-each}
+use Rattle.masks.proofs.Truth.{left-each}
 use Rattle.entries.proofs.roles.keeps_all.Statement.{statement}
 use Rattle.entries.proofs.roles.keeps_all.Tie as tie
 

@@ -1,8 +1,7 @@
 -- `entries::sessions::is_blank` meets its contract.
--- Assumes nothing.
 use borrow.Author.Needs.{needs}
 use Rattle.model.specs.Rules.{sessionBlank, sessionBlankTests}
-use Rattle.entries.proofs.Laws.{left-each}
+use Rattle.masks.proofs.Truth.{left-each}
 use Rattle.entries.proofs.sessions.is_blank.Statement.{statement}
 use Rattle.entries.proofs.sessions.is_blank.Tie as tie
 

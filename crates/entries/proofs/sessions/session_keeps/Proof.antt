@@ -1,19 +1,18 @@
 -- `entries::sessions::session_keeps` meets its contract.
--- Assumes nothing.
-use mathlib.Core.Path.{sym, _∙_}
+use mathlib.Core.Path.{_∙_}
 use borrow.Author.Needs.{needs}
 use Rattle.entries.specs.Limits.{sessionKeepsWith}
-use Rattle.entries.proofs.Laws.{cond-true, cond-false}
+use Rattle.masks.proofs.Truth.{cond-true, cond-false}
 use Rattle.entries.proofs.sessions.session_keeps.Statement.{statement}
 use Rattle.entries.proofs.sessions.session_keeps.Tie as tie
 
 returns : tie.Need-returns
 unfolding sessionKeepsWith
-returns c = c .keeps-all .ensures ∙ sym (cond-true _ _ (c .before .if1 .taken))
+returns c = c .keeps-all .ensures ∙ cond-true _ _ _ (c .before .if1 .taken)
 
 returns-2 : tie.Need-returns-2
 unfolding sessionKeepsWith
-returns-2 c = c .is-blank .ensures ∙ sym (cond-false _ _ (c .before .if1 .left))
+returns-2 c = c .is-blank .ensures ∙ cond-false _ _ _ (c .before .if1 .left)
 
 pub session-keeps-spec : {M : Type 1} → statement M
 session-keeps-spec = tie.close (tie.spec (λ c κs. search needs) (λ c κs. search needs) returns returns-2)

@@ -1,16 +1,16 @@
 -- `rules::capability::capabilities_keep` meets its contract.
--- Assumes nothing.
 use mathlib.Core.Bool.{true}
 use mathlib.Core.Path.{_≡_, refl, sym, ap, _∙_}
-use Prim.Native.Nat.{_≤_, _-_}
+use Prim.Native.Nat.{_%_, _≤_, _-_}
 use native.Mathlib.Omega.{arith}
 use lib.ListN.{getD, length}
 use borrow.Author.Needs.{needs}
 use borrow.Author.Tests.{not-true, not-false}
 use Rattle.masks.specs.Tests.{allBelow}
 use Rattle.model.specs.Rules.{placeKeeps}
-use Rattle.model.specs.State.{capabilityAt, roleAuthority}
-use Rattle.entries.specs.Limits.{numberOf}
+use Rattle.model.specs.State.{capabilityAt}
+use Rattle.origins.specs.Numbers.{capabilityHeld}
+use Rattle.origins.proofs.Laws.{held-placed}
 use Rattle.rules.specs.Columns.{tally}
 use Rattle.rules.proofs.Laws.{all-more, all-fails}
 use Rattle.rules.proofs.Counts.{tally-le, tally-more, tally-at, tally-length}
@@ -19,47 +19,64 @@ use Rattle.rules.proofs.capability.capabilities_keep.Statement.{stateme
 use Rattle.rules.proofs.capability.capabilities_keep.Tie as tie
 
 abbrev Inv-loop : tie.InvT-loop
-Inv-loop bound r roles permissions founded created table₀ n₀ table n = (n ≤ created) × (table ≡ tally (r .capabilities) n)
+Inv-loop bound r roles authorities founded created table₀ n₀ table n = (n ≤ created) × (table ≡ tally (r .capabilities) n)
 
 abbrev μ-loop : tie.MeasureT-loop
-μ-loop bound r roles permissions founded created table₀ n₀ table n = created - n
+μ-loop bound r roles authorities founded created table₀ n₀ table n = created - n
 
 abbrev Inv-loop2 : tie.InvT-loop2
-Inv-loop2 bound r roles permissions founded created table n enrolled count i₀ i =
+Inv-loop2 bound r roles authorities founded created table n enrolled count i₀ i =
     (i ≤ bound)
     × (length table ≡ 256)
     × (r .count ≤ 256 → table ≡ tally (r .capabilities) (r .count))
     × (r .count ≤ 256 → true ≡ allBelow i (λ n. placeKeeps (r .enrolled) (r .roles) (r .count) (r .capabilities) n (capabilityAt (r .capabilities) n)))
 
 abbrev μ-loop2 : tie.MeasureT-loop2
-μ-loop2 bound r roles permissions founded created table n enrolled count i₀ i = bound - i
+μ-loop2 bound r roles authorities founded created table n enrolled count i₀ i = bound - i
+
+-- the way back, from each landmark to the one before it
+abbrev begun : tie.After-places Inv-loop μ-loop Inv-loop2 μ-loop2 → tie.Start Inv-loop μ-loop Inv-loop2 μ-loop2
+begun c = c .before .before .before .before
+
+abbrev counting : tie.In-loop Inv-loop μ-loop Inv-loop2 μ-loop2 → tie.After-places Inv-loop μ-loop Inv-loop2 μ-loop2
+counting c = c .before .before
+
+abbrev counted : tie.At-loop2 Inv-loop μ-loop Inv-loop2 μ-loop2 → tie.At-loop Inv-loop μ-loop Inv-loop2 μ-loop2
+counted c = c .before .before
+
+abbrev read : tie.After-granted-by Inv-loop μ-loop Inv-loop2 μ-loop2 → tie.After-capability-held Inv-loop μ-loop Inv-loop2 μ-loop2
+read c = c .before .before .before
+
+abbrev turn : tie.After-granted-by Inv-loop μ-loop Inv-loop2 μ-loop2 → tie.In-loop2 Inv-loop μ-loop Inv-loop2 μ-loop2
+turn c = read c .before .before .before .before
 
 loop-holds : tie.Need-loop-holds Inv-loop μ-loop Inv-loop2 μ-loop2
 unfolding tally
 loop-holds c = search needs
 
 mul-c : tie.Need-mul-c Inv-loop μ-loop Inv-loop2 μ-loop2
-mul-c c = omega (arith, c .before .before .places .ensures .0)
+mul-c c = omega (arith, counting c .places .ensures .0)
 
 element-copy-out-c : tie.Need-element-copy-out-c Inv-loop μ-loop Inv-loop2 μ-loop2
-element-copy-out-c c = omega (arith, c .before .before .places .ensures .0)
+element-copy-out-c c = omega (arith, counting c .places .ensures .0)
 
 bump-requires : tie.Need-bump-requires Inv-loop μ-loop Inv-loop2 μ-loop2
 bump-requires c κs =
-    let l = c .before .before .before .loop in
-    let cs = c .before .before .before .before .before .before .before .before .args .t1 .capabilities in
-    rw (l .inv .1) (omega (arith, c .before .before .before .before .places .ensures .0, tally-le cs (numberOf (capabilityAt cs (l .n) .origin)) (l .n)))
+    let l = c .before .before in
+    let cs = begun (counting l) .args .t1 .capabilities in
+    let n = l .before .loop .n in
+    rw (l .before .loop .inv .1) (omega (arith, counting l .places .ensures .0, tally-le cs (capabilityHeld (capabilityAt cs n .origin)) n))
 
 loop-again : tie.Need-loop-again Inv-loop μ-loop Inv-loop2 μ-loop2
 loop-again c =
-    let l = c .before .before .before .before .loop in
-    (search needs, tally-more (c .before .before .before .before .before .before .before .before .before .args .t1 .capabilities) (l .n) (l .inv .1) (c .bump .ensures))
+    let l = c .before .before .before in
+    (search needs, tally-more (begun (counting l) .args .t1 .capabilities) (l .before .loop .n) (l .before .loop .inv .1) (c .bump .ensures))
 
 loop2-holds : tie.Need-loop2-holds Inv-loop μ-loop Inv-loop2 μ-loop2
 unfolding allBelow
 loop2-holds c =
     let l = c .before .loop in
-    let r = c .before .before .before .before .before .before .args .t1 in (
+    let r = begun (c .before .before) .args .t1 in (
       search needs,
       ap length (l .inv .1) ∙ tally-length (r .capabilities) (l .n),
       (λ few. l .inv .1 ∙ ap (tally (r .capabilities)) {x = l .n} {y = r .count} (omega (arith, c .before .before .places .ensures .1 few, c .loop-test .left))),
@@ -68,41 +85,42 @@ loop2-holds c =
 
 -- what the code finds of a place is what the rules say of it
 found : (c : tie.After-keeps-place Inv-loop μ-loop Inv-loop2 μ-loop2) →
-    let l = c .before .before .before .before .before .before .before .before .before .before .loop2 in
-    let r = c .before .before .before .before .before .before .before .before .before .before .before .before .before .before .before .before .before .args .t1 in
-    r .count ≤ 256 → c .keeps-place .result ≡ placeKeeps (r .enrolled) (r .roles) (r .count) (r .capabilities) (l .i) (capabilityAt (r .capabilities) (l .i))
-unfolding roleAuthority
+    let l = turn (c .before .before .before) in
+    let r = begun (counted (l .before) .before) .args .t1 in
+    r .count ≤ 256 → c .keeps-place .result ≡ placeKeeps (r .enrolled) (r .roles) (r .count) (r .capabilities) (l .before .loop2 .i) (capabilityAt (r .capabilities) (l .before .loop2 .i))
 found c few =
     let there = c .before in
-    let u = c .before .before in
-    let lent = c .before .before .before in
-    let k = c .before .before .before .before .before .before .before in
-    let l = c .before .before .before .before .before .before .before .before .before .before .loop2 in
-    let table = c .before .before .before .before .before .before .before .before .before .before .before .before .loop .table in
-    let founded = c .before .before .before .before .before .before .before .before .before .before .before .before .before .before in
-    let permissions = c .before .before .before .before .before .before .before .before .before .before .before .before .before .before .before in
-    let r = c .before .before .before .before .before .before .before .before .before .before .before .before .before .before .before .before .before .args .t1 in
+    let u = there .before in
+    let grants = u .before in
+    let held = read grants in
+    let l = turn grants .before .loop2 in
+    let first = counted (turn grants .before) in
+    let p = first .before in
+    let r = begun p .args .t1 in
     c .keeps-place .ensures
-    ∙ place-agrees (r .enrolled) (r .roles) (r .count) (r .capabilities) (l .i) (k .number-of .result) (founded .founded-roles .result) (lent .join .result) (getD table (l .i) 0)
-    (λ j. getD (permissions .role-permissions .result) j 0) _ _ (k .number-of .ensures) (founded .founded-roles .ensures) (permissions .role-permissions .ensures) (lent .join .ensures) (there .present-in .ensures _) (u .allowance-of .ensures)
-    (ap (λ t. getD t (l .i) 0) (l .inv .2 few) ∙ tally-at (r .capabilities) (l .i) (r .count) (omega (arith, c .before .before .before .before .before .before .before .before .before .before .before .before .before .before .before .before .before .pre)))
+    ∙ place-agrees (r .enrolled) (r .roles) (r .count) (r .capabilities) (l .i) (held .before .before .role-held .result % 32) (held .capability-held .result) _ (getD (first .loop .table) (l .i) 0) (p .before .before .authorities-of .result) _ _
+    (held-placed (capabilityAt (r .capabilities) (l .i) .origin) _ _ (held .before .before .role-held .ensures) (held .capability-held .ensures) (omega (arith, held .capability-held))) (p .before .founded-roles .ensures) (p .before .before .authorities-of .ensures)
+    (there .present-in .ensures (capabilityAt (r .capabilities) (held .capability-held .result))) (rw (← grants .granted-by .ensures) (u .allowance-of .ensures))
+    (ap (λ t. getD t (l .i) 0) (l .inv .2 few) ∙ tally-at (r .capabilities) (l .i) (r .count) (omega (arith, turn grants .loop2-test .taken, begun p .pre)))
 
 returns : tie.Need-returns Inv-loop μ-loop Inv-loop2 μ-loop2
 returns c few =
-    let l = c .before .before .before .before .before .before .before .before .before .before .before .loop2 in
+    let l = turn (c .before .before .before .before) .before .loop2 in
     all-fails _ (l .i) _ (omega arith) (sym (found (c .before) few) ∙ not-true _ (c .if1 .taken))
 
 add-i : tie.Need-add-i Inv-loop μ-loop Inv-loop2 μ-loop2
-add-i c = omega (arith, c .before .before .before .before .before .before .before .before .before .before .loop2-test .taken, c .before .before .before .before .before .before .before .before .before .before .before .before .before .before .before .before .before .before .pre)
+add-i c =
+    let l = turn (c .before .before .before .before) in
+    omega (arith, l .loop2-test .taken, begun (counted (l .before) .before) .pre)
 
 loop2-again : tie.Need-loop2-again Inv-loop μ-loop Inv-loop2 μ-loop2
 loop2-again c =
-    let l = c .before .before .before .before .before .before .before .before .before .before .before .loop2 in
+    let l = turn (c .before .before .before .before) .before .loop2 in
     (search needs, l .inv .1, l .inv .2, (λ few. all-more (l .i) _ (l .inv .3 few) (sym (not-false _ (c .if1 .left)) ∙ found (c .before) few)))
 
 returns-2 : tie.Need-returns-2 Inv-loop μ-loop Inv-loop2 μ-loop2
 returns-2 c few =
-    let r = c .before .before .before .before .before .before .before .before .args .t1 in
+    let r = begun (counted (c .before) .before) .args .t1 in
     c .before .loop2 .inv .3 few ∙ ap (λ n. allBelow n (λ n. placeKeeps (r .enrolled) (r .roles) (r .count) (r .capabilities) n (capabilityAt (r .capabilities) n))) {x = c .before .loop2 .i} (omega arith)
 
 pub capabilities-keep-spec : {M : Type 1} → statement M
@@ -122,8 +140,8 @@ capabilities-keep-spec =
     loop-again
     loop2-holds
     (λ c. search needs) (λ c. search needs) (λ c κs. search needs) (λ c. search needs) (λ c. search needs) (λ c. search needs)
-    (λ c. search needs) (λ c. search needs) (λ c. search needs) (λ c κs. search needs) (λ c κs. search needs) (λ c κs. search needs) (λ c. search needs)
-    (λ c. search needs) (λ c κs. search needs)
+    (λ c κs. search needs) (λ c. search needs) (λ c. search needs) (λ c. search needs) (λ c κs. search needs) (λ c κs. search needs)
+    (λ c κs. search needs) (λ c. search needs) (λ c. search needs) (λ c κs. search needs)
     returns
     add-i
     (λ c. search needs)

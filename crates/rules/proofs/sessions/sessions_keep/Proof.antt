@@ -1,13 +1,13 @@
 -- `rules::sessions::sessions_keep` meets its contract.
--- Assumes nothing.
 use mathlib.Core.Bool.{_&&_}
 use mathlib.Core.Path.{_≡_, ap, _∙_}
-use Prim.Native.Nat.{_≤_, _-_}
+use Prim.Native.Nat.{_%_, _≤_, _-_}
 use native.Mathlib.Omega.{arith}
 use borrow.Author.Needs.{needs}
 use Rattle.masks.specs.Tests.{allBelow}
 use Rattle.model.specs.Rules.{sessionKeeps}
 use Rattle.model.specs.State.{sessionAt}
+use Rattle.origins.proofs.Laws.{held-placed}
 use Rattle.rules.proofs.Laws.{all-more}
 use Rattle.rules.proofs.Agreement.{session-agrees}
 use Rattle.rules.proofs.sessions.sessions_keep.Statement.{statement}
@@ -27,14 +27,15 @@ loop-again : tie.Need-loop-again Inv-loop μ-loop
 loop-again c =
     let there = c .before in
     let u = there .before in
-    let k = u .before .before .before in
-    let l = k .before .before .before .loop in
-    let r = k .before .before .before .before .args .t1 in (
+    let held = u .before .before in
+    let role = held .before .before in
+    let l = role .before .before .before in
+    let r = l .before .args .t1 in (
       search needs,
-      all-more (l .i) _ (l .inv .1)
-          (ap (λ t. l .ok && t)
+      all-more (l .loop .i) _ (l .loop .inv .1)
+          (ap (λ t. l .loop .ok && t)
           (c .session-keeps .ensures
-          ∙ session-agrees (r .enrolled) (r .roles) (r .count) (r .capabilities) (l .i) (k .number-of .result) (sessionAt (r .sessions) (l .i)) _ _ (k .number-of .ensures) (there .present-in .ensures _) (u .allowance-of .ensures))),
+          ∙ session-agrees (r .enrolled) (r .roles) (r .count) (r .capabilities) (l .loop .i) (role .role-held .result % 32) (held .capability-held .result) 0 (sessionAt (r .sessions) (l .loop .i)) _ _ (held-placed (sessionAt (r .sessions) (l .loop .i) .on) _ _ (role .role-held .ensures) (held .capability-held .ensures) (omega arith)) (there .present-in .ensures _) (u .allowance-of .ensures))),
     )
 
 returns : tie.Need-returns Inv-loop μ-loop
@@ -51,7 +52,7 @@ sessions-keep-spec =
     μ-loop
     loop-holds
     (λ c. search needs) (λ c. search needs) (λ c κs. search needs) (λ c. search needs) (λ c. search needs) (λ c. search needs)
-    (λ c. search needs) (λ c. search needs) (λ c. search needs) (λ c κs. search needs) (λ c κs. search needs) (λ c κs. search needs) (λ c. search needs)
-    (λ c. search needs)
+    (λ c κs. search needs) (λ c. search needs) (λ c. search needs) (λ c. search needs) (λ c κs. search needs) (λ c κs. search needs)
+    (λ c κs. search needs) (λ c. search needs) (λ c. search needs)
     loop-again
     returns)

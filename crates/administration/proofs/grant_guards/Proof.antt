@@ -1,0 +1,17 @@
+use borrow.Author.Needs.{needs}
+use mathlib.Core.Path.{refl, ap}
+use mathlib.Core.Bool.{Bool, not, _&&_}
+use Rattle.slots.proofs.GuardLaws.{test, test-unless, nothing-more}
+use Rattle.administration.proofs.grant_guards.Statement.{statement}
+use Rattle.administration.proofs.grant_guards.Tie as tie
+
+returns : tie.Need-returns
+returns c =
+    test-unless _ _ _ _ _ (c .first3 .ensures) refl refl
+    (test-unless _ _ _ _ _ (c .before .first2 .ensures) refl refl
+    (test _ _ _ (c .before .before .before .first .ensures) (c .before .before .before .before .member .ensures) refl nothing-more))
+
+pub grant-guards-spec : {M : Type 1} → statement M
+grant-guards-spec =
+    tie.close
+    (tie.spec (λ c. search needs) (λ c κs. search needs) (λ c κs. search needs) (λ c κs. search needs) (λ c κs. search needs) returns)

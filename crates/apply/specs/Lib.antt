@@ -1,2 +1,0 @@
--- Where the elements that a request names were found.
-pub mod View

@@ -1,2 +1,0 @@
--- Laws of the tests of one thing.
-pub mod Laws

@@ -1,0 +1,2 @@
+-- What is read from elements is the register's.
+pub mod Laws

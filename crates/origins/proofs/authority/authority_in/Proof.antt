@@ -1,0 +1,11 @@
+use borrow.Author.Needs.{needs}
+use Rattle.origins.specs.Authority.{authorityIn}
+use Rattle.origins.proofs.authority.authority_in.Statement.{statement}
+use Rattle.origins.proofs.authority.authority_in.Tie as tie
+
+returns : tie.Need-returns
+unfolding authorityIn
+returns c = rw (c .before .join .ensures)
+
+pub authority-in-spec : {M : Type 1} → statement M
+authority-in-spec = tie.close (tie.spec (λ c κs. search needs) returns)

@@ -1,0 +1,14 @@
+use borrow.Author.Needs.{needs}
+use Rattle.origins.proofs.numbers.origin_named.Statement.{statement}
+use Rattle.origins.proofs.numbers.origin_named.Tie as tie
+
+returns : tie.Need-returns
+returns c = rw (c .before .o .given .1)
+
+returns-2 : tie.Need-returns-2
+returns-2 c = rw (c .before .o2 .given .1)
+
+pub origin-named-spec : {M : Type 1} → statement M
+origin-named-spec =
+    tie.close
+    (tie.spec (λ c. search needs) (λ c. search needs) (λ c. search needs) (λ c. search needs) returns returns-2)

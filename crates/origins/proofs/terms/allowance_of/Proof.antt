@@ -1,0 +1,18 @@
+use borrow.Author.Needs.{needs}
+use mathlib.Core.Path.{ap}
+use Rattle.origins.specs.Terms.{slotTerms}
+use Rattle.origins.proofs.terms.allowance_of.Statement.{statement}
+use Rattle.origins.proofs.terms.allowance_of.Tie as tie
+
+returns : tie.Need-returns
+unfolding slotTerms
+returns c = rw (c .before .before .o .given .1, c .bit32 .ensures)
+
+returns-2 : tie.Need-returns-2
+unfolding slotTerms
+returns-2 c = rw (c .before .o2 .given .1)
+
+pub allowance-of-spec : {M : Type 1} → statement M
+allowance-of-spec =
+    tie.close
+    (tie.spec (λ c. search needs) (λ c. search needs) (λ c κs. search needs) (λ c. search needs) returns returns-2)

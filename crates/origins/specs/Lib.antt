@@ -1,0 +1,4 @@
+-- What stands at an origin and what it allows, from the elements read.
+pub mod Authority
+pub mod Numbers
+pub mod Terms

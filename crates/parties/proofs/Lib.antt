@@ -1,2 +1,0 @@
--- The terms read from elements are those of the register.
-pub mod Laws

@@ -1,2 +1,0 @@
--- What an origin allows, from the elements read.
-pub mod Terms

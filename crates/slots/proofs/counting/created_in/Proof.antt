@@ -1,0 +1,12 @@
+use borrow.Author.Needs.{needs}
+use Rattle.slots.proofs.counting.created_in.Statement.{statement}
+use Rattle.slots.proofs.counting.created_in.Tie as tie
+
+returns : tie.Need-returns
+returns c = rw (c .before .o .given .1)
+
+returns-2 : tie.Need-returns-2
+returns-2 c = rw (c .before .before .o2 .given .1, c .raised .ensures)
+
+pub created-in-spec : {M : Type 1} → statement M
+created-in-spec = tie.close (tie.spec (λ c. search needs) (λ c. search needs) (λ c κs. search needs) returns returns-2)

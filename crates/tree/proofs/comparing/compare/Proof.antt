@@ -1,0 +1,11 @@
+-- `tree::comparing::compare` meets its contract.
+use Rattle.tree.specs.Guards.{sameAnswer}
+use Rattle.tree.proofs.comparing.compare.Statement.{statement}
+use Rattle.tree.proofs.comparing.compare.Tie as tie
+
+returns : tie.Need-returns
+unfolding sameAnswer
+returns c = c .answered .ensures _ _ tt (c .before .before .same-guards .ensures) (λ g. c .before .one-if .ensures)
+
+pub compare-spec : {M : Type 1} → statement M
+compare-spec = tie.close (tie.spec (λ c κs. tt) (λ c κs. tt) (λ c κs. tt) returns)

@@ -1,0 +1,22 @@
+-- `tree::withdrawing::withdraw_order` meets its contract.
+use borrow.Author.Needs.{needs}
+use mathlib.Core.Path.{ap, _∙_}
+use Prim.Native.Nat.{_%_}
+use Rattle.sweeps.specs.declared.Sweep.the-variants.{Cut}
+use Rattle.tree.specs.Orders.{orderEffect}
+use Rattle.tree.proofs.OrderLaws.{order-by}
+use Rattle.tree.proofs.WithdrawLaws.{withdraw-refused, withdraw-passed}
+use Rattle.tree.proofs.withdrawing.withdraw_order.Statement.{statement}
+use Rattle.tree.proofs.withdrawing.withdraw_order.Tie as tie
+
+returns : tie.Need-returns
+returns c =
+    let s = c .before .before .before .before in
+    let k = c .before .before in
+    ap (orderEffect (s .args .t1)) (c .ordered .ensures)
+    ∙ order-by (s .args .t1) _ (k .withdraw-guards .result) (Cut (s .args .role % 32) (c .before .excluding32 .result))
+    (λ why q. withdraw-refused (s .args .t1) (s .args .role) (s .args .permission) _ (k .withdraw-guards .ensures) q)
+    (λ q. withdraw-passed (s .args .t1) (s .args .role) (s .args .permission) _ (k .withdraw-guards .ensures) _ (c .before .excluding32 .ensures) q)
+
+pub withdraw-order-spec : {M : Type 1} → statement M
+withdraw-order-spec = tie.close (tie.spec (λ c. search needs) (λ c. search needs) (λ c. search needs) (λ c κs. search needs) (λ c κs. search needs) (λ c. search needs) (λ c κs. search needs) returns)
