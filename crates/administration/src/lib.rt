@@ -16,7 +16,7 @@ use slots::guards::Guarded;
 use slots::guards::first;
 use slots::settle;
 
-pub fn enrol_guards(enrolled: u64, user: u32, domain: u32) -> Guarded
+fn enrol_guards(enrolled: u64, user: u32, domain: u32) -> Guarded
     ensures { λ q. ⌜ guarded q ≡ firstNumber ((enrolling enrolled user domain) .guards) ⌝ }
 {
     let already = member(enrolled, user);
@@ -34,14 +34,7 @@ pub fn decide_enrol(v: Slots, user: u32, domain: u32) -> Decision
     settle(v, k, 0, w)
 }
 
-pub fn found_guards(
-    x: Role,
-    role: u32,
-    domain: u32,
-    hours: u32,
-    places: u32,
-    devices: u32,
-) -> Guarded
+fn found_guards(x: Role, role: u32, domain: u32, hours: u32, places: u32, devices: u32) -> Guarded
     ensures { λ q. ⌜ guarded q ≡ firstNumber ((founding x role domain hours places devices) .guards) ⌝ }
 {
     let k = first(x.founded, Refusal::Unchanged, Guarded::Pass);
@@ -78,7 +71,7 @@ pub fn decide_found(
     settle(v, k, 0, w)
 }
 
-pub fn grant_guards(x: Role, role: u32, permission: u32) -> Guarded
+fn grant_guards(x: Role, role: u32, permission: u32) -> Guarded
     ensures { λ q. ⌜ guarded q ≡ firstNumber ((granting x role permission) .guards) ⌝ }
 {
     let has = member(x.permissions as u64, permission);
@@ -99,7 +92,7 @@ pub fn decide_grant(v: Slots, role: u32, permission: u32) -> Decision
     settle(v, k, 0, w)
 }
 
-pub fn appoint_guards(enrolled: u64, domain: u8, x: Role, user: u32, role: u32) -> Guarded
+fn appoint_guards(enrolled: u64, domain: u8, x: Role, user: u32, role: u32) -> Guarded
     ensures { λ q. ⌜ guarded q ≡ firstNumber ((appointing enrolled domain x user role) .guards) ⌝ }
 {
     let known = member(enrolled, user);
@@ -122,7 +115,7 @@ pub fn decide_appoint(v: Slots, user: u32, role: u32) -> Decision
     settle(v, k, 0, w)
 }
 
-pub fn dismiss_guards(enrolled: u64, x: Role, user: u32, role: u32) -> Guarded
+fn dismiss_guards(enrolled: u64, x: Role, user: u32, role: u32) -> Guarded
     ensures { λ q. ⌜ guarded q ≡ firstNumber ((dismissing enrolled x user role) .guards) ⌝ }
 {
     let known = member(enrolled, user);
@@ -144,7 +137,7 @@ pub fn decide_dismiss(v: Slots, user: u32, role: u32) -> Decision
     settle(v, k, 0, w)
 }
 
-pub fn clock_guards(clock: u32, tick: u32) -> Guarded
+fn clock_guards(clock: u32, tick: u32) -> Guarded
     ensures { λ q. ⌜ guarded q ≡ firstNumber ((ticking clock tick) .guards) ⌝ }
 {
     first(tick < clock, Refusal::Past, Guarded::Pass)

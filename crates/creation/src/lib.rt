@@ -39,7 +39,7 @@ use slots::settle;
 use slots::terms::origin_allows;
 
 // The numbers of a request are in their ranges; the first tick is at most the last.
-pub fn in_ranges(user: u32, origin: Named, at: Context, plan: Plan) -> bool
+fn in_ranges(user: u32, origin: Named, at: Context, plan: Plan) -> bool
     ensures { λ q. ⌜ q ≡ each (createRanges user (namedOrigin origin) at plan) ⌝ }
 {
     let named = named_range(origin);
@@ -57,20 +57,20 @@ pub fn in_ranges(user: u32, origin: Named, at: Context, plan: Plan) -> bool
 }
 
 // A number against an origin's limit, a mask against an origin's mask.
-pub fn at_most(x: u32, limit: u16) -> bool
+fn at_most(x: u32, limit: u16) -> bool
     ensures { λ q. ⌜ q ≡ leb x limit ⌝ }
 {
     x <= limit as u32
 }
 
-pub fn contained16(m: u32, mask: u16) -> bool
+fn contained16(m: u32, mask: u16) -> bool
     ensures { λ q. ⌜ q ≡ within m mask ⌝ }
 {
     contained(m, mask as u32)
 }
 
 // Masks, life and limits of the plan lie within what the origin allows.
-pub fn plan_below(plan: Plan, a: Allowance) -> bool
+fn plan_below(plan: Plan, a: Allowance) -> bool
     ensures { λ q. ⌜ ((user : ℕ) (o : OriginHeld) → q ≡ below (claims (newCapability user o plan)) (termsIn a)) ⌝ }
 {
     let hours = contained(plan.hours, a.hours);
@@ -91,7 +91,7 @@ pub fn plan_below(plan: Plan, a: Allowance) -> bool
 }
 
 // The new capability.
-pub fn made(user: u32, origin: Named, plan: Plan) -> Capability
+fn made(user: u32, origin: Named, plan: Plan) -> Capability
     ensures { λ q. ⌜ q ≡ madeOf user origin plan ⌝ }
 {
     let o = origin_named(origin);
@@ -117,7 +117,7 @@ pub fn made(user: u32, origin: Named, plan: Plan) -> Capability
 }
 
 // The tests of create, from the last to the first: the origin o is read from its slot and allows a.
-pub fn create_guards(
+fn create_guards(
     v: Slots,
     o: Origin,
     a: Allowance,

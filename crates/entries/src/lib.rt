@@ -1,5 +1,5 @@
 // The rules of one user, role, capability or session, by itself and against what its origin allows.
 pub mod capability;
-pub mod limits;
+mod limits;
 pub mod roles;
 pub mod sessions;

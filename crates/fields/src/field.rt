@@ -12,14 +12,14 @@ use crate::number::put;
 use crate::number::put_map;
 
 // The bytes of a field.
-pub fn width_of(code: usize) -> usize
+fn width_of(code: usize) -> usize
     ensures { λ r. ⌜ r ≡ width (codingOf code) ⌝ }
 {
     if 16 < code { code - 16 } else { code }
 }
 
 // Writes a field at the front of s; the bytes written.
-pub fn put_field(s: &mut [u8], code: usize, v: u64) -> usize
+fn put_field(s: &mut [u8], code: usize, v: u64) -> usize
     requires { ⌜ length (written (codingOf code) v) ≤ length (now s) ⌝ }
     ensures { λ r. ⌜ (r ≡ length (written (codingOf code) v)) × (now (s .exit) ≡ front (written (codingOf code) v) (now (s .entry))) ⌝ }
 {
@@ -32,7 +32,7 @@ pub fn put_field(s: &mut [u8], code: usize, v: u64) -> usize
 }
 
 // Writes a field unless it is 0; the bytes written.
-pub fn put_set(s: &mut [u8], code: usize, v: u64) -> usize
+fn put_set(s: &mut [u8], code: usize, v: u64) -> usize
     requires { ⌜ length (writeSet (codingOf code) v) ≤ length (now s) ⌝ }
     ensures { λ r. ⌜ (r ≡ length (writeSet (codingOf code) v)) × (now (s .exit) ≡ front (writeSet (codingOf code) v) (now (s .entry))) ⌝ }
 {
@@ -94,7 +94,7 @@ pub fn field_map(values: &[u64]) -> u64
 }
 
 // The field at `at`. Bytes past the end are 0.
-pub fn read_field(s: &[u8], at: usize, code: usize) -> u64
+fn read_field(s: &[u8], at: usize, code: usize) -> u64
     requires { ⌜ (at < 65536) × (width (codingOf code) ≤ 8) ⌝ }
     ensures { λ r. ⌜ r ≡ readField (codingOf code) (drop at (now (s .entry))) ⌝ }
 {
@@ -108,7 +108,7 @@ pub fn read_field(s: &[u8], at: usize, code: usize) -> u64
 }
 
 // The field at `at` where its bit of the map is set, else 0.
-pub fn read_set(s: &[u8], at: usize, bit: u64, code: usize) -> u64
+fn read_set(s: &[u8], at: usize, bit: u64, code: usize) -> u64
     requires { ⌜ (at < 65536) × (width (codingOf code) ≤ 8) ⌝ }
     ensures { λ r. ⌜ r ≡ readSet bit (codingOf code) (drop at (now (s .entry))) ⌝ }
 {

@@ -20,7 +20,7 @@ use slots::settle;
 use slots::terms::origin_allows;
 
 // The tests of hand, from the last to the first.
-pub fn hand_guards(
+fn hand_guards(
     enrolled: u64,
     count: u16,
     c: Capability,
@@ -50,7 +50,7 @@ pub fn hand_guards(
 }
 
 // The tests of allow and lend: `given` is what the origin may give, `had` what the capability has already.
-pub fn give_guards(
+fn give_guards(
     enrolled: u64,
     count: u16,
     c: Capability,
@@ -83,7 +83,7 @@ pub struct Extension {
 }
 
 // Allow and lend, once it is known what they add to.
-pub fn give(
+fn give(
     v: Slots,
     authorities: &[u32; 32],
     user: u32,

@@ -27,7 +27,7 @@ pub fn bit32(k: u32) -> u32
     1 << k
 }
 
-pub fn bit64(k: u32) -> u64
+fn bit64(k: u32) -> u64
     requires { ⌜ k < 64 ⌝ }
     ensures { λ q. ⌜ q ≡ 2 ^ k ⌝ }
 {

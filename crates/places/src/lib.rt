@@ -32,7 +32,7 @@ pub struct Names {
     pub follow: Follow,
 }
 
-pub fn named_by(
+fn named_by(
     user: u32,
     role: u32,
     parent: u32,
@@ -53,7 +53,7 @@ pub fn named_by(
 }
 
 // The number of the role, or of the capability, that is named; 0 if it is the other.
-pub fn role_in(o: Named) -> u32
+fn role_in(o: Named) -> u32
     ensures { λ z. ⌜ z ≡ roleIn o ⌝ }
 {
     match o {
@@ -62,7 +62,7 @@ pub fn role_in(o: Named) -> u32
     }
 }
 
-pub fn capability_in(o: Named) -> u32
+fn capability_in(o: Named) -> u32
     ensures { λ z. ⌜ z ≡ capabilityIn o ⌝ }
 {
     match o {

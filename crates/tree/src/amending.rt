@@ -29,13 +29,13 @@ pub struct Amendment {
     pub limit: u32,
 }
 
-pub fn lowered(limit: u32, d: u32) -> u32
+fn lowered(limit: u32, d: u32) -> u32
     ensures { λ q. ⌜ q ≡ limit - d ⌝ }
 {
     if d < limit { limit - d } else { 0 }
 }
 
-pub fn amendment_of(change: Change, limit: u16) -> Amendment
+fn amendment_of(change: Change, limit: u16) -> Amendment
     ensures { λ q. ⌜ q ≡ amendmentOf (changeOf change) limit ⌝ }
 {
     match change {
@@ -54,7 +54,7 @@ pub fn amendment_of(change: Change, limit: u16) -> Amendment
     }
 }
 
-pub fn amend_guards(
+fn amend_guards(
     enrolled: u64,
     count: u16,
     user: u32,

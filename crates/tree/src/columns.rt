@@ -8,7 +8,7 @@ use model::Origin;
 use model::Register;
 
 // An origin as a number: a capability's own, and for a role one above all of them.
-pub fn code_of(o: Origin) -> u16
+fn code_of(o: Origin) -> u16
     ensures { λ q. ⌜ q ≡ originCode o ⌝ }
 {
     match o {

@@ -21,7 +21,7 @@ use slots::guards::answered;
 use slots::guards::first;
 use sweeps::one_if;
 
-pub fn same_guards(count: u16, m: u32, n: u32) -> Guarded
+fn same_guards(count: u16, m: u32, n: u32) -> Guarded
     ensures { λ q. ⌜ guarded q ≡ firstNumber (sameGuards count m n) ⌝ }
 {
     let k = first(

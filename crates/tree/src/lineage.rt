@@ -6,7 +6,7 @@ ghost use lib.ListN.{getD};
 ghost use Rattle.tree.specs.Tree.{lineageHas, lineageEnd};
 
 // A call spares the proof that an element of a lent array fits.
-pub fn wide(x: u16) -> usize
+fn wide(x: u16) -> usize
     ensures { λ q. ⌜ q ≡ x ⌝ }
 {
     x as usize

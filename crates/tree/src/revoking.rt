@@ -18,7 +18,7 @@ use slots::guards::first;
 use sweeps::Sweep;
 
 // `entitled` says whether the user created the capability or one on its lineage, `revoked` whether it is revoked already.
-pub fn revoke_guards(
+fn revoke_guards(
     enrolled: u64,
     count: u16,
     user: u32,

@@ -17,7 +17,7 @@ use slots::guards::Guarded;
 use slots::guards::first;
 use sweeps::Sweep;
 
-pub fn withdraw_guards(x: Role, role: u32, permission: u32) -> Guarded
+fn withdraw_guards(x: Role, role: u32, permission: u32) -> Guarded
     ensures { λ q. ⌜ guarded q ≡ firstNumber ((withdrawing x role permission) .guards) ⌝ }
 {
     let granted = member(x.permissions as u64, permission);
