@@ -1,6 +1,6 @@
--- A test that code leaves out because it always fails, and guards with the origin that they are read from.
-use mathlib.Core.Path.{_≡_, refl, ap, _∙_}
-use mathlib.Core.Bool.{Bool, true, false, _||_}
+-- The guards with the origin that they are read from, and the new capability.
+use mathlib.Core.Path.{_≡_, ap, _∙_}
+use mathlib.Core.Bool.{Bool}
 use mathlib.Core.List.{List}
 use Prim.Native.Nat.{ℕ}
 use lib.Dec.{T}
@@ -21,10 +21,6 @@ use Rattle.slots.specs.Guards.{firstNumber}
 use Rattle.slots.specs.Terms.{originTerms}
 use Rattle.slots.proofs.GuardLaws.{ranged-same}
 use Rattle.creation.specs.Creation.{madeOf, creatingFrom, creatingOn}
-
-pub or-false : (a : Bool) → (a || false) ≡ a
-or-false true = refl
-or-false false = refl
 
 -- the guards with the origin as it is named, and the terms as they are read
 pub create-agrees : (v : Slots) (column : List ℕ) (user : ℕ) (origin : Named) (at : Context) (plan : Plan) {k : ℕ} {t : Terms} {o : Origin}

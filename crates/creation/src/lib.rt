@@ -1,18 +1,12 @@
 // Creation: create, decided over the elements that it names.
 ghost use mathlib.Core.Path.{_≡_};
-ghost use Prim.Native.Nat.{ℕ};
-ghost use lib.Dec.{leb};
-ghost use Rattle.masks.specs.Masks.{within};
 ghost use Rattle.masks.specs.Tests.{each};
-ghost use Rattle.model.specs.declared.Origin.{Origin as OriginHeld};
-ghost use Rattle.model.specs.State.{newCapability, claims, below};
 ghost use Rattle.model.specs.Delegation.{createRanges};
 ghost use Rattle.model.specs.Requests.{namedOrigin};
 ghost use Rattle.origins.specs.Terms.{termsIn};
 ghost use Rattle.slots.specs.Guards.{guarded, firstNumber};
 ghost use Rattle.slots.specs.Slots.{ruledOf};
 ghost use Rattle.creation.specs.Creation.{madeOf, creatingFrom, createDecision};
-use masks::contained;
 use masks::member;
 use model::Capability;
 use model::Context;
@@ -29,6 +23,7 @@ use origins::standing::present_in;
 use origins::terms::Allowance;
 use origins::terms::admits;
 use origins::terms::in_context;
+use origins::terms::is_below;
 use slots::Decision;
 use slots::Slots;
 use slots::counting::created_in;
@@ -54,40 +49,6 @@ fn in_ranges(user: u32, origin: Named, at: Context, plan: Plan) -> bool
         & (plan.places < 65536)
         & (plan.devices < 65536)
         & (plan.first <= plan.last)
-}
-
-// A number against an origin's limit, a mask against an origin's mask.
-fn at_most(x: u32, limit: u16) -> bool
-    ensures { λ q. ⌜ q ≡ leb x limit ⌝ }
-{
-    x <= limit as u32
-}
-
-fn contained16(m: u32, mask: u16) -> bool
-    ensures { λ q. ⌜ q ≡ within m mask ⌝ }
-{
-    contained(m, mask as u32)
-}
-
-// Masks, life and limits of the plan lie within what the origin allows.
-fn plan_below(plan: Plan, a: Allowance) -> bool
-    ensures { λ q. ⌜ ((user : ℕ) (o : OriginHeld) → q ≡ below (claims (newCapability user o plan)) (termsIn a)) ⌝ }
-{
-    let hours = contained(plan.hours, a.hours);
-    let places = contained16(plan.places, a.places);
-    let devices = contained16(plan.devices, a.devices);
-    let uses = at_most(plan.uses, a.use_limit);
-    let creations = at_most(plan.creations, a.creation_limit);
-    let hops = at_most(plan.hops, a.hop_limit);
-    hours
-        & places
-        & devices
-        & (a.first <= plan.first)
-        & (plan.last <= a.last)
-        & uses
-        & creations
-        & hops
-        & !a.revoked
 }
 
 // The new capability.
@@ -138,7 +99,8 @@ fn create_guards(
     let grants = member(a.grants as u64, 0);
     let ranged = in_ranges(user, origin, at, plan);
     let admitted = admits(a, at);
-    let fits = plan_below(plan, a);
+    let new = made(user, origin, plan);
+    let fits = is_below(new, a);
     let k = first(!(v.count < 256), Refusal::Full, Guarded::Pass);
     let k = first(!fits, Refusal::Exceeds, k);
     let k = first(!creates, Refusal::Exhausted, k);

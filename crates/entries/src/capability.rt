@@ -4,13 +4,13 @@ ghost use Rattle.masks.specs.Tests.{each};
 ghost use Rattle.model.specs.Rules.{capabilityBlank, inRange, ownKeeps};
 ghost use Rattle.origins.specs.Terms.{termsIn};
 ghost use Rattle.entries.specs.Limits.{capabilityWith, placeWith};
-use crate::limits::is_below;
 use crate::limits::is_earlier;
 use crate::limits::is_origin;
 use crate::limits::is_role_zero;
 use masks::member;
 use model::Capability;
 use origins::terms::Allowance;
+use origins::terms::is_below;
 
 // What is kept for a capability not there is 0.
 fn is_blank(c: Capability) -> bool

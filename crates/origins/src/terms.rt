@@ -1,6 +1,6 @@
 // What an origin allows, and the contexts that it admits.
 ghost use mathlib.Core.Path.{_≡_};
-ghost use Rattle.model.specs.State.{inContext, admitted};
+ghost use Rattle.model.specs.State.{inContext, claims, below, admitted};
 ghost use Rattle.origins.specs.Terms.{termsIn, slotTerms, bareIn};
 use masks::bit32;
 use masks::member;
@@ -81,4 +81,21 @@ pub fn admits(t: Allowance, at: Context) -> bool
     let place = member(t.places as u64, at.place);
     let device = member(t.devices as u64, at.device);
     hour & place & device
+}
+
+// What a capability claims is within what its origin allows.
+pub fn is_below(c: Capability, t: Allowance) -> bool
+    ensures { λ q. ⌜ q ≡ below (claims c) (termsIn t) ⌝ }
+{
+    (c.permissions & t.grants == c.permissions)
+        & (c.lent & t.lendable == c.lent)
+        & (c.hours & t.hours == c.hours)
+        & (c.places & t.places == c.places)
+        & (c.devices & t.devices == c.devices)
+        & (t.first <= c.first)
+        & (c.last <= t.last)
+        & (c.use_limit <= t.use_limit)
+        & (c.creation_limit <= t.creation_limit)
+        & (c.hop_limit <= t.hop_limit)
+        & (!t.revoked | c.revoked)
 }
