@@ -1,31 +1,30 @@
 -- Of a register that keeps the rules and shows the origins `derived`: containment along derivation, and exact checks.
-use mathlib.Core.Path.{_≡_, refl, sym, ap, _∙_, subst}
+use mathlib.Core.Path.{_≡_, sym, ap, _∙_, subst}
 use mathlib.Core.Logic.{_⊎_, inl, inr, _↔_}
-use mathlib.Core.Bool.{Bool, true, false, cond, not, _&&_}
-use mathlib.Core.List.{List, [], _∷_}
-use Prim.Native.Nat.{ℕ, suc, _≤_, _<_}
+use mathlib.Core.Bool.{Bool, true, false, cond}
+use mathlib.Core.List.{List}
+use Prim.Native.Nat.{ℕ, suc, _<_}
 use native.Mathlib.Nat.{le-refl, le-trans}
 use native.Mathlib.Decide.{decLt}
 use native.Mathlib.Omega.{arith}
-use lib.Dec.{T, T-not, not-T, leb, lt→ltb, ltb→lt, leb→le, le→leb}
+use lib.Dec.{T, T-not, not-T, lt→ltb, ltb→lt, leb→le, le→leb}
 use lib.ListN.{List·getD-eq-default}
-use Rattle.masks.specs.Masks.{has}
-use Rattle.masks.proofs.Truth.{Each, each→, each←, cond-yes, and-l, and-r, and-i, T→true}
+use Rattle.masks.proofs.Truth.{Each, each→, each←, cond-yes, T→true}
 use Rattle.masks.proofs.MaskLaws.{within-has, has-lt}
 use Rattle.model.specs.declared.Origin.{Origin}
-use Rattle.model.specs.declared.Origin.the-variants.{Role as ofRole, Capability as ofCapability}
-use Rattle.model.specs.declared.Capability.{Capability}
+use Rattle.model.specs.declared.Origin.the-variants.{Capability as ofCapability}
 use Rattle.model.specs.declared.Session.{Session}
 use Rattle.model.specs.declared.Register.{Register}
 use Rattle.model.specs.State.{terms, roleAuthority, sessionAt, blankSession, originAt, lifeTests, inLife, exists}
 use Rattle.model.specs.Lineage.{Descends, here, Reaches}
 use Rattle.model.specs.Rules.{sessionKeeps, sessionTests, sessionBlank}
 use Rattle.model.specs.Invariant.{Below, RoleRules}
-use Rattle.model.specs.Rulings.{Outcome, value, refused, Guard, role, capability, opened, termsOf}
+use Rattle.model.specs.Rulings.{value, refused, Guard, role, capability, opened, termsOf}
 use Rattle.model.specs.Sessions.{permits, permitTests, checkRuling}
 use Rattle.model.specs.Calls.{check, ruling}
-use Rattle.model.specs.Theorem.{asked, Yes, Contained, Sound, RoleSound, Entitled}
+use Rattle.model.specs.Theorem.{asked, Yes, Contained, Sound, Entitled}
 use Rattle.model.proofs.Settling.{Clear, verdict, verdict-cases, clear-verdict, step-answer}
+use Rattle.model.proofs.Authority.{authority-small}
 use Rattle.model.proofs.Kept.{Kept}
 use Rattle.model.proofs.Places.{role→}
 use Rattle.model.proofs.Ranges.{founded-lt}
@@ -122,12 +121,12 @@ module _ (r : Register) (derived : ℕ → Origin) (k : Kept r) (shows : Shows r
 
   -- the permission of an entitlement is in its range, as the role's permissions are
   entitled-lt : (n user p : ℕ) → n < r .count → Entitled r derived user p n → p < 32
-  unfolding roleAuthority
+  unfolding terms
   entitled-lt n user p l h =
       let end : (j : ℕ) × Reaches derived (suc n) n j × T ((role r j) .founded) = bounded-holds n l in
       let rules : RoleRules (r .enrolled) (r .domains) (role r (end .0)) =
       role→ (r .enrolled) (r .domains) (end .0) (role r (end .0)) (end .2) (k .roles .role (end .0) (founded-lt (r .roles) (end .0) (k .roles .amount) (end .2))) in
-      has-lt 32 ((role r (end .0)) .permissions) p (rules .permissions) (h .ends (end .0) (end .1) .grants)
+      has-lt 32 (roleAuthority (r .roles) (end .0)) p (authority-small (r .roles) (end .0) (rules .permissions)) (h .ends (end .0) (end .1) .grants)
 
   pub exact-check-holds : (s p n : ℕ) → T (opened r s) → (sessionAt (r .sessions) s) .on ≡ ofCapability n
       → Yes r s p ↔ Entitled r derived ((sessionAt (r .sessions) s) .user) p n

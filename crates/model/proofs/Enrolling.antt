@@ -21,6 +21,7 @@ use Rattle.model.specs.Setters.{withAppointed, withRoles}
 use Rattle.model.specs.Rulings.{role}
 use Rattle.model.specs.Administration.{enrolRuling, appointRuling, dismissRuling}
 use Rattle.model.proofs.Settling.{Clear, passed}
+use Rattle.model.proofs.Authority.{authority-grows}
 use Rattle.model.proofs.Kept.{RolesKept, UsersKept, Kept}
 use Rattle.model.proofs.Places.{role→, role←, role-set}
 use Rattle.model.proofs.Frames.{RoleFrame, role-frame}
@@ -38,14 +39,13 @@ module _ (enrolled : ℕ) (domains : List ℕ) (k : ℕ) (x : Role) (founded : T
 -- a role with other appointed users
 appoint-any : (r : Register) (j m : ℕ) → j < 32 → Kept r → T (roleKeeps (r .enrolled) (r .domains) j (withAppointed (role r j) m))
     → Kept (withRoles r (set (r .roles) j (withAppointed (role r j) m)))
-unfolding roleAuthority
 appoint-any r j m l k h =
     let x : Role = withAppointed (role r j) m in
     let inside : j < length (r .roles) = omega (arith, k .roles .amount) in
     let frames : (i : ℕ) → RoleFrame (role r i) (roleAt (set (r .roles) j x) i) =
     λ i. set-each RoleFrame (r .roles) j x blankRole role-frame (record { founded = refl; hours = refl; places = refl; devices = refl }) i inside in
     let more : (i : ℕ) → T (within (roleAuthority (r .roles) i) (roleAuthority (set (r .roles) j x) i)) =
-    λ i. set-each (λ a b. T (within (a .permissions) (b .permissions))) (r .roles) j x blankRole (λ a. within-refl (a .permissions)) (within-refl ((role r j) .permissions)) i inside in
+    authority-grows (r .roles) j x inside (within-refl ((role r j) .permissions)) in
     record {
       clock = k .clock;
       users = k .users;

@@ -1,5 +1,5 @@
 -- Found keeps the shelf rules.
-use mathlib.Core.Path.{_≡_, refl, sym, ap, subst}
+use mathlib.Core.Path.{_≡_, refl, sym, ap, ap₂, subst}
 use mathlib.Core.Bool.{false, not}
 use Prim.Native.Nat.{ℕ, _^_, _<_}
 use native.Mathlib.Omega.{arith}
@@ -20,6 +20,7 @@ use Rattle.model.specs.Rules.{roleKeeps, roleBlank, roleBlankTests, role
 use Rattle.model.specs.Rulings.{role}
 use Rattle.model.specs.Administration.{foundRuling, newRole}
 use Rattle.model.proofs.Settling.{Clear, passed}
+use Rattle.model.proofs.Authority.{authority-same}
 use Rattle.model.proofs.Kept.{Kept}
 use Rattle.model.proofs.Places.{role←, role-set}
 use Rattle.model.proofs.Parts.{same-sessions, moved-capabilities}
@@ -36,8 +37,7 @@ module _ (r : Register) (j domain hours places devices : ℕ) (k : Kept r) (lj :
       eqb→eq _ _ (each→ (roleBlankTests (role r j)) (cond-no ((role r j) .founded) (each (roleTests (r .enrolled) (r .domains) (role r j))) (roleBlank (role r j)) (k .roles .role j lj) new) .1 .0)
 
   same-authority : (i : ℕ) → roleAuthority (set (r .roles) j role-new) i ≡ roleAuthority (r .roles) i
-  unfolding roleAuthority
-  same-authority i = set-each (λ a b. b .permissions ≡ a .permissions) (r .roles) j role-new blankRole (λ a. refl) (sym no-permissions) i (omega (arith, k .roles .amount))
+  same-authority = authority-same (r .roles) j role-new (omega (arith, k .roles .amount)) (sym no-permissions)
 
   founded-still : (o : Origin) → T (exists (r .roles) (r .count) o) → T (exists (set (r .roles) j role-new) (r .count) o)
   unfolding exists
@@ -45,11 +45,12 @@ module _ (r : Register) (j domain hours places devices : ℕ) (k : Kept r) (lj :
   founded-still (ofCapability n) h = h
 
   founded-same : (o : Origin) → T (exists (r .roles) (r .count) o) → terms (set (r .roles) j role-new) (r .capabilities) o ≡ terms (r .roles) (r .capabilities) o
-  unfolding exists terms authority lentAuthority roleAuthority
+  unfolding exists terms authority lentAuthority
   founded-same (ofRole i) h =
-      ap
-      (λ (x : Role). record { grants = x .permissions; lendable = mayLend (r .roles) (2 ^ i); hours = x .hours; places = x .places; devices = x .devices; first = 0; last = 4294967295; use-limit = 65535; creation-limit = 65535; hop-limit = 65535; revoked = false })
+      ap₂
+      (λ (x : Role) (g : ℕ). record { grants = g; lendable = mayLend (r .roles) (2 ^ i); hours = x .hours; places = x .places; devices = x .devices; first = 0; last = 4294967295; use-limit = 65535; creation-limit = 65535; hop-limit = 65535; revoked = false })
       (getD-set-other (r .roles) j i role-new blankRole (λ e. T-not ((role r j) .founded) new (subst (λ (x : ℕ). T ((role r x) .founded)) e h)))
+      (same-authority i)
   founded-same (ofCapability n) h =
       ap (λ (x : ℕ). termsWith (bitOr ((capabilityAt (r .capabilities) n) .permissions) x) ((capabilityAt (r .capabilities) n) .lent) (capabilityAt (r .capabilities) n))
       (joined-ext (roleAuthority (set (r .roles) j role-new)) (roleAuthority (r .roles)) ((capabilityAt (r .capabilities) n) .lent) 32 same-authority)

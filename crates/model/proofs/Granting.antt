@@ -8,7 +8,7 @@ use Rattle.model.specs.declared.Role.{Role}
 use Rattle.model.specs.declared.Register.{Register}
 use Rattle.masks.specs.Masks.{within, including, excluding}
 use Rattle.masks.proofs.Bounded.{set-each}
-use Rattle.masks.proofs.MaskLaws.{within-refl, within-including, within-le, excluding-within, including-lt}
+use Rattle.masks.proofs.MaskLaws.{within-including, within-le, excluding-within, including-lt}
 use Rattle.model.specs.State.{roleAuthority, roleAt, originAt, blankRole, exists}
 use Rattle.model.specs.Rules.{roleKeeps}
 use Rattle.model.specs.Invariant.{RoleRules}
@@ -17,6 +17,7 @@ use Rattle.model.specs.Rulings.{role}
 use Rattle.model.specs.Administration.{grantRuling, withdrawRuling, clockRuling}
 use Rattle.model.proofs.Settling.{Clear, passed}
 use Rattle.model.proofs.Kept.{Kept}
+use Rattle.model.proofs.Authority.{authority-grows}
 use Rattle.model.proofs.Places.{role→, role←, role-set}
 use Rattle.model.proofs.Frames.{RoleFrame, role-frame, reworked-sessions}
 use Rattle.model.proofs.Parts.{roles-capabilities, roles-sessions}
@@ -46,7 +47,7 @@ permission-frames r j p l k i =
     i (omega (arith, k .roles .amount))
 
 pub grant-keeps : (r : Register) (j p : ℕ) → Kept r → Clear ((grantRuling r j p) .guards) → Kept ((grantRuling r j p) .after)
-unfolding grantRuling exists roleAuthority
+unfolding grantRuling exists
 grant-keeps r j p k g =
     let lj : j < 32 = ltb→lt _ _ (passed 2 ((grantRuling r j p) .guards) g .0) in
     let lp : p < 32 = ltb→lt _ _ (passed 2 ((grantRuling r j p) .guards) g .1 .0) in
@@ -54,7 +55,7 @@ grant-keeps r j p k g =
     let x : Role = withRolePermissions (role r j) (including ((role r j) .permissions) p) in
     let frames : (i : ℕ) → RoleFrame (role r i) (roleAt (set (r .roles) j x) i) = permission-frames r j _ lj k in
     let more : (i : ℕ) → T (within (roleAuthority (r .roles) i) (roleAuthority (set (r .roles) j x) i)) =
-    λ i. set-each (λ a b. T (within (a .permissions) (b .permissions))) (r .roles) j x blankRole (λ a. within-refl (a .permissions)) (within-including ((role r j) .permissions) p) i (omega (arith, k .roles .amount)) in
+    authority-grows (r .roles) j x (omega (arith, k .roles .amount)) (within-including ((role r j) .permissions) p) in
     record {
       clock = k .clock;
       users = k .users;

@@ -1,5 +1,6 @@
 pub mod Settling
 pub mod Kept
+pub mod Authority
 pub mod Places
 pub mod Tree
 pub mod Frames

@@ -8,16 +8,17 @@ use native.Mathlib.Omega.{arith}
 use lib.Dec.{T, ltb→lt, eqb→eq}
 use lib.ListN.{length, List·getD-eq-default}
 use lib.Pow.{pow-lt}
-use Rattle.masks.specs.Masks.{has, within}
+use Rattle.masks.specs.Masks.{has}
 use Rattle.masks.proofs.MaskLaws.{within-le, within-trans, within-has, within-or-l, has-single, has-lt}
 use Rattle.model.specs.declared.Origin.{Origin}
 use Rattle.model.specs.declared.Origin.the-variants.{Role as ofRole, Capability as ofCapability}
 use Rattle.model.specs.declared.Role.{Role}
 use Rattle.model.specs.declared.Capability.{Capability}
 use Rattle.model.specs.declared.Register.{Register}
-use Rattle.model.specs.State.{terms, authority, roleAuthority, roleAt, capabilityAt, blankRole, exists}
+use Rattle.model.specs.State.{terms, authority, roleAuthority, roleAt, blankRole, exists}
 use Rattle.model.specs.Rulings.{role, capability, termsOf}
 use Rattle.model.specs.Invariant.{OriginInRange, Below, RoleRules, CapabilityRanges}
+use Rattle.model.proofs.Authority.{authority-small}
 use Rattle.model.proofs.Kept.{OwnKept, Kept}
 use Rattle.model.proofs.Places.{role→}
 use Rattle.model.proofs.Tree.{rooted}
@@ -54,7 +55,7 @@ module _ (r : Register) (n : ℕ) (k : Kept r) (l : n < r .count) where
       (k .roles .role end (founded-lt (r .roles) end (k .roles .amount) end-founded))
 
   pub in-range : CapabilityRanges (capability r n)
-  unfolding terms roleAuthority authority
+  unfolding terms authority
   in-range =
       let c : Capability = capability r n in
       let w : Below (termsOf r (ofCapability n)) (termsOf r (ofRole end)) = end-above in
@@ -66,9 +67,9 @@ module _ (r : Register) (n : ℕ) (k : Kept r) (l : n < r .count) where
         permissions =
             omega (
               arith,
-              within-le ((capability r n) .permissions) ((role r end) .permissions)
-                  (within-trans ((capability r n) .permissions) (authority (r .roles) (capability r n)) ((role r end) .permissions) (within-or-l ((capability r n) .permissions) _) (w .grants)),
-              end-rules .permissions,
+              within-le ((capability r n) .permissions) (roleAuthority (r .roles) end)
+                  (within-trans ((capability r n) .permissions) (authority (r .roles) (capability r n)) (roleAuthority (r .roles) end) (within-or-l ((capability r n) .permissions) _) (w .grants)),
+              authority-small (r .roles) end (end-rules .permissions),
             );
         lent = omega (arith, within-le ((capability r n) .lent) (2 ^ end) (w .lendable), pow-lt (founded-lt (r .roles) end (k .roles .amount) end-founded));
         holders = omega (arith, within-le ((capability r n) .holders) (r .enrolled) (o .holders), k .users .small);

@@ -1,5 +1,5 @@
 -- One more step of a sweep.
-use mathlib.Core.Path.{_≡_, refl, sym, ap, ap₂, _∙_}
+use mathlib.Core.Path.{_≡_, refl, ap, ap₂, _∙_}
 use mathlib.Core.Bool.{Bool, true, false, cond, not, _&&_, _||_}
 use mathlib.Core.List.{List}
 use Prim.Native.Nat.{ℕ, _+_, _%_, _≤_, _<_, min}
@@ -8,7 +8,7 @@ use native.Mathlib.Numerals.{add-one}
 use native.Mathlib.Omega.{arith}
 use lib.Bits.{bitAnd}
 use lib.Dec.{eqb}
-use lib.ListN.{set, getD, length, length-set, List·getD-eq-default}
+use lib.ListN.{set, getD, length, length-set}
 use borrow.Author.Tests.{le-ltb}
 use Rattle.masks.specs.Tests.{countBelow, rising}
 use Rattle.model.specs.declared.Origin.{Origin}
@@ -16,8 +16,9 @@ use Rattle.model.specs.declared.Origin.the-variants.{Role as ofRole, Capability
 use Rattle.model.specs.declared.Role.{Role}
 use Rattle.model.specs.declared.Capability.{Capability}
 use Rattle.model.specs.declared.Register.{Register}
-use Rattle.model.specs.State.{blankRole, blankCapability, capabilityAt, originAt, roleAuthority, terms}
+use Rattle.model.specs.State.{blankCapability, capabilityAt, originAt, roleAuthority, terms}
 use Rattle.model.specs.Rulings.{value}
+use Rattle.model.proofs.Authority.{authority-past}
 use Rattle.model.specs.Setters.{withRoles, withCapabilities, withRevoked, withUseLimit, withPermissions}
 use Rattle.model.specs.Administration.{cutPermissions}
 use Rattle.origins.specs.Authority.{roleGrants, authorityIn, grantedBy}
@@ -59,11 +60,9 @@ one-le false e = omega arith
 module _ (roles : List Role) (cs : List Capability) (column : List ℕ) (kept : Column column roles) (amount : length roles ≡ 32) where
   -- no role is past 31
   role-above : (k : ℕ) → Dec (k < 32) → roleGrants column k ≡ roleAuthority roles k
-  unfolding roleGrants roleAuthority
+  unfolding roleGrants
   role-above k (yes l) = role-granted column roles kept k l
-  role-above k (no g) =
-      ap (λ (b : Bool). cond b (getD column k 0) 0) (le-ltb k 32 (omega arith))
-      ∙ sym (ap (λ (x : Role). x .permissions) (List·getD-eq-default roles blankRole {n = k} (omega arith)))
+  role-above k (no g) = ap (λ (b : Bool). cond b (getD column k 0) 0) (le-ltb k 32 (omega arith)) ∙ authority-past roles k (omega arith)
 
   granted-above : (o : Origin) (j : ℕ) → j ≡ capabilityHeld o → grantedBy column o (capabilityAt cs j) ≡ (terms roles cs o) .grants
   unfolding terms
