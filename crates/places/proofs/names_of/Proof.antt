@@ -3,44 +3,15 @@ use borrow.Author.Needs.{needs}
 use Rattle.places.proofs.names_of.Statement.{statement}
 use Rattle.places.proofs.names_of.Tie as tie
 
-returns : tie.Need-returns
-returns c = rw (c .before .before .q .given .1) (c .named-by .ensures)
-
-returns-2 : tie.Need-returns-2
-returns-2 c = rw (c .before .before .q2 .given .1) (c .named-by2 .ensures)
-
-returns-3 : tie.Need-returns-3
-returns-3 c = rw (c .before .before .q3 .given .1) (c .named-by3 .ensures)
-
-returns-4 : tie.Need-returns-4
-returns-4 c = rw (c .before .before .q4 .given .1) (c .named-by4 .ensures)
-
-returns-5 : tie.Need-returns-5
-returns-5 c = rw (c .before .before .q5 .given .1) (c .named-by5 .ensures)
-
-returns-6 : tie.Need-returns-6
-returns-6 c = rw (c .before .enum-told .given .1) (c .named-by6 .ensures)
-
 returns-7 : tie.Need-returns-7
-returns-7 c = rw (c .before .before .before .before .q6 .given .1) (c .named-by7 .ensures ∙ rw (c .before .capability-in .ensures, c .before .before .role-in .ensures))
-
-returns-8 : tie.Need-returns-8
-returns-8 c = rw (c .before .before .q7 .given .1) (c .named-by8 .ensures)
-
-returns-9 : tie.Need-returns-9
-returns-9 c = rw (c .before .before .q8 .given .1) (c .named-by9 .ensures)
-
-returns-10 : tie.Need-returns-10
-returns-10 c = rw (c .before .before .q9 .given .1) (c .named-by10 .ensures)
+returns-7 c =
+    let capability-in : tie.After-capability-in = search in let role-in : tie.After-role-in = search in let q6 : tie.After-q6 = search in
+    rw (q6 .q6 .given .1) (c .named-by7 .ensures ∙ rw (capability-in .capability-in .ensures, role-in .role-in .ensures))
 
 returns-11 : tie.Need-returns-11
-returns-11 c = rw (c .before .before .before .before .q10 .given .1) (c .named-by11 .ensures ∙ rw (c .before .capability-in2 .ensures, c .before .before .role-in2 .ensures))
-
-returns-12 : tie.Need-returns-12
-returns-12 c = rw (c .before .before .q11 .given .1) (c .named-by12 .ensures)
-
-returns-13 : tie.Need-returns-13
-returns-13 c = rw (c .before .before .q12 .given .1) (c .named-by13 .ensures)
+returns-11 c =
+    let capability-in2 : tie.After-capability-in2 = search in let role-in2 : tie.After-role-in2 = search in let q10 : tie.After-q10 = search in
+    rw (q10 .q10 .given .1) (c .named-by11 .ensures ∙ rw (capability-in2 .capability-in2 .ensures, role-in2 .role-in2 .ensures))
 
 pub names-of-spec : {M : Type 1} → statement M
 names-of-spec =
@@ -59,16 +30,16 @@ names-of-spec =
     (λ c. search needs) (λ c κs. search needs) (λ c κs. search needs) (λ c κs. search needs)
     (λ c. search needs) (λ c κs. search needs)
     (λ c. search needs) (λ c κs. search needs)
-    returns
-    returns-2
-    returns-3
-    returns-4
-    returns-5
-    returns-6
+    (λ c. let q : tie.After-q = search in rw (q .q .given .1) (c .named-by .ensures))
+    (λ c. let q : tie.After-q2 = search in rw (q .q2 .given .1) (c .named-by2 .ensures))
+    (λ c. let q : tie.After-q3 = search in rw (q .q3 .given .1) (c .named-by3 .ensures))
+    (λ c. let q : tie.After-q4 = search in rw (q .q4 .given .1) (c .named-by4 .ensures))
+    (λ c. let q : tie.After-q5 = search in rw (q .q5 .given .1) (c .named-by5 .ensures))
+    (λ c. let q : tie.After-enum-told = search in rw (q .enum-told .given .1) (c .named-by6 .ensures))
     returns-7
-    returns-8
-    returns-9
-    returns-10
+    (λ c. let q : tie.After-q7 = search in rw (q .q7 .given .1) (c .named-by8 .ensures))
+    (λ c. let q : tie.After-q8 = search in rw (q .q8 .given .1) (c .named-by9 .ensures))
+    (λ c. let q : tie.After-q9 = search in rw (q .q9 .given .1) (c .named-by10 .ensures))
     returns-11
-    returns-12
-    returns-13)
+    (λ c. let q : tie.After-q11 = search in rw (q .q11 .given .1) (c .named-by12 .ensures))
+    (λ c. let q : tie.After-q12 = search in rw (q .q12 .given .1) (c .named-by13 .ensures)))

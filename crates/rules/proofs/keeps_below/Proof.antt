@@ -8,24 +8,21 @@ use Rattle.rules.proofs.keeps_below.Statement.{statement}
 use Rattle.rules.proofs.keeps_below.Tie as tie
 
 capabilities-keep-requires : tie.Need-capabilities-keep-requires
-capabilities-keep-requires c κs = c .before .before .before .before .before .before .pre .0
+capabilities-keep-requires c κs = let start : tie.Start = search in start .pre .0
 
 returns : tie.Need-returns
 returns c =
-    let sessions = c .before in
-    let capabilities = sessions .before in
-    let roles = capabilities .before in
-    let users = roles .before .before .before in
-    let start = users .before .before .before in
+    let sessions : tie.After-sessions-keep = search in let capabilities : tie.After-capabilities-keep = search in
+    let roles : tie.After-roles-keep = search in let users : tie.After-users-keep = search in let start : tie.Start = search in
     let r = start .args .r in
     let arrays = start .good .0 .1 .1 .1 .1 in
     register-agrees r
     (users .users-keep .result) (roles .roles-keep .result) (capabilities .capabilities-keep .result) (sessions .sessions-keep .result)
     (search needs) (search needs)
     (simp length-map at (arrays .0 .1 .0 .1)) (simp length-map at (arrays .1 .0 .1 .0 .1)) (simp length-map at (arrays .1 .1 .1 .0 .1 .0 .1)) (simp length-map at (arrays .1 .1 .1 .1 .0 .1 .0 .1))
-    (users .users-keep .ensures) (roles .roles-keep .ensures)
-    (λ few. capabilities .capabilities-keep .ensures few ∙ blank-rest r (start .args .bound) (start .pre .0) (start .pre .1 few))
-    (sessions .sessions-keep .ensures)
+    (search) (search)
+    (λ few. capabilities .capabilities-keep .ensures few ∙ blank-rest r (start .args .bound) (search) (start .pre .1 few))
+    (search)
 
 pub keeps-below-spec : {M : Type 1} → statement M
 keeps-below-spec =

@@ -13,10 +13,10 @@ use Rattle.entries.proofs.capability.is_ranged.Tie as tie
 returns : tie.Need-returns
 unfolding inRange
 returns c =
-    let h = c .struct-known2 .given in
-    let a = c .before .before .before .args .c in
+    let is-origin : tie.After-is-origin = search in let start : tie.Start = search in let h = c .struct-known2 .given in
+    let a = start .args .c in
     rw (
-      c .before .before .is-origin .ensures,
+      is-origin .is-origin .ensures,
       lt-ltb (a .permissions) (2 ^ 32) (omega (arith, h)),
       lt-ltb (a .lent) (2 ^ 32) (omega (arith, h)),
       lt-ltb (a .holders) (2 ^ 64) (omega (arith, h)),

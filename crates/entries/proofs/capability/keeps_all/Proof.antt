@@ -10,11 +10,8 @@ use Rattle.entries.proofs.capability.keeps_all.Tie as tie
 returns : tie.Need-returns
 unfolding within
 returns c =
-    let own = c .before .before in
-    let fits = own .before in
-    let placed = fits .before in
-    let ranged = placed .before in
-    let a = ranged .before .before .args in
+    let own : tie.After-keeps-own = search in let fits : tie.After-is-below = search in let placed : tie.After-is-earlier = search in
+    let ranged : tie.After-is-ranged = search in let start : tie.Start = search in let a = start .args in
     rw (ranged .is-ranged .ensures, placed .is-earlier .ensures, fits .is-below .ensures, own .keeps-own .ensures)
     (left-each (capabilityWith (a .enrolled) (a .founded) (a .n) (a .there) (termsIn (a .u)) (a .made) (a .c)))
 

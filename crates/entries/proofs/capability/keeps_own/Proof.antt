@@ -13,8 +13,8 @@ cast-result c = omega (arith, c .struct-known5 .given)
 returns : tie.Need-returns
 unfolding ownKeeps within
 returns c =
-    let b = c .before .before .before .before .before .before in
-    rw (b .member .ensures) (left-each (ownTests (b .before .before .args .enrolled) (b .before .before .args .c)))
+    let b : tie.After-member = search in let start : tie.Start = search in
+    rw (b .member .ensures) (left-each (ownTests (start .args .enrolled) (start .args .c)))
 
 pub keeps-own-spec : {M : Type 1} → statement M
 keeps-own-spec = tie.close (tie.spec (λ c. search needs) (λ c κs. search needs) cast-result returns)

@@ -10,7 +10,7 @@ returns c = rw (c .enum-told .given .1)
 
 returns-2 : tie.Need-returns-2
 unfolding earlier
-returns-2 c = rw (c .before .o .given .1)
+returns-2 c = let o : tie.After-o = search in rw (o .o .given .1)
 
 pub is-earlier-spec : {M : Type 1} → statement M
 is-earlier-spec = tie.close (tie.spec (λ c. search needs) (λ c. search needs) (λ c. search needs) returns returns-2)

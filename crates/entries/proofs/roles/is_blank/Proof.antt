@@ -6,7 +6,7 @@ use Rattle.entries.proofs.roles.is_blank.Tie as tie
 
 returns : tie.Need-returns
 unfolding roleBlank
-returns c = left-each (roleBlankTests (c .before .before .before .before .before .before .args .x))
+returns c = let start : tie.Start = search in left-each (roleBlankTests (start .args .x))
 
 pub is-blank-spec : {M : Type 1} → statement M
 is-blank-spec = tie.close (tie.spec returns)

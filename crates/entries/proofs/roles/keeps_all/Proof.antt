@@ -12,8 +12,8 @@ use Rattle.entries.proofs.roles.keeps_all.Tie as tie
 returns : tie.Need-returns
 unfolding within
 returns c =
-    let h = c .struct-known6 .given in
-    let a = c .before .before .before .before .before .before .args in
+    let start : tie.Start = search in let h = c .struct-known6 .given in
+    let a = start .args in
     let x = a .x in
     rw (
       lt-ltb (x .permissions) (2 ^ 32) (omega (arith, h)),

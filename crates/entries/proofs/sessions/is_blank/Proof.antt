@@ -8,8 +8,8 @@ use Rattle.entries.proofs.sessions.is_blank.Tie as tie
 returns : tie.Need-returns
 unfolding sessionBlank
 returns c =
-    let b = c .before .before .before .before in
-    rw (b .is-role-zero .ensures) (left-each (sessionBlankTests (b .before .args .s)))
+    let b : tie.After-is-role-zero = search in let start : tie.Start = search in
+    rw (b .is-role-zero .ensures) (left-each (sessionBlankTests (start .args .s)))
 
 pub is-blank-spec : {M : Type 1} → statement M
 is-blank-spec = tie.close (tie.spec (λ c κs. search needs) returns)

@@ -8,11 +8,8 @@ use Rattle.entries.proofs.sessions.keeps_all.Tie as tie
 
 returns : tie.Need-returns
 returns c =
-    let admitted = c .before in
-    let known = admitted .before in
-    let timely = known .before .before in
-    let ranged = timely .before .before .before .before in
-    let a = ranged .before .args in
+    let admitted : tie.After-admits = search in let known : tie.After-member = search in let timely : tie.After-in-context = search in
+    let ranged : tie.After-is-origin = search in let start : tie.Start = search in let a = start .args in
     rw (ranged .is-origin .ensures, timely .in-context .ensures, known .member .ensures, admitted .admits .ensures)
     (left-each (sessionWith (a .enrolled) (a .there) (termsIn (a .u)) (a .s)))
 

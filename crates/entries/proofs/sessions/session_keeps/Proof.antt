@@ -8,11 +8,11 @@ use Rattle.entries.proofs.sessions.session_keeps.Tie as tie
 
 returns : tie.Need-returns
 unfolding sessionKeepsWith
-returns c = c .keeps-all .ensures ∙ cond-true _ _ _ (c .before .if1 .taken)
+returns c = let then1 : tie.Then1 = search in c .keeps-all .ensures ∙ cond-true _ _ _ (then1 .if1 .taken)
 
 returns-2 : tie.Need-returns-2
 unfolding sessionKeepsWith
-returns-2 c = c .is-blank .ensures ∙ cond-false _ _ _ (c .before .if1 .left)
+returns-2 c = let else1 : tie.Else1 = search in c .is-blank .ensures ∙ cond-false _ _ _ (else1 .if1 .left)
 
 pub session-keeps-spec : {M : Type 1} → statement M
 session-keeps-spec = tie.close (tie.spec (λ c κs. search needs) (λ c κs. search needs) returns returns-2)

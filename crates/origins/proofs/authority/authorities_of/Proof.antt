@@ -20,11 +20,11 @@ loop-holds c = (search needs, (search needs, λ k l. absurd (omega arith)))
 loop-again : tie.Need-loop-again Inv-loop μ-loop
 unfolding roleAuthority
 loop-again c =
-    let l = c .before .before .loop in
+    let at-loop : tie.At-loop Inv-loop μ-loop = search in let l = at-loop .loop in
     (search needs, (simp length-set (l .inv .1 .0), column-more 0 _ (l .column) (l .i) _ (omega arith) (l .inv .1 .1) refl))
 
 returns : tie.Need-returns Inv-loop μ-loop
-returns c = λ k h. c .before .loop .inv .1 .1 k (omega arith)
+returns c = let at-loop : tie.At-loop Inv-loop μ-loop = search in λ k h. at-loop .loop .inv .1 .1 k (omega arith)
 
 pub authorities-of-spec : {M : Type 1} → statement M
 authorities-of-spec =

@@ -6,11 +6,11 @@ use Rattle.origins.proofs.authority.role_grants.Tie as tie
 
 returns : tie.Need-returns
 unfolding roleGrants
-returns c = rw (lt-ltb (c .before .before .args .k) 32 (c .before .if1 .taken))
+returns c = let start : tie.Start = search in rw (lt-ltb (start .args .k) 32 (search))
 
 returns-2 : tie.Need-returns-2
 unfolding roleGrants
-returns-2 c = rw (le-ltb (c .before .args .k) 32 (c .if1 .left))
+returns-2 c = let start : tie.Start = search in rw (le-ltb (start .args .k) 32 (c .if1 .left))
 
 pub role-grants-spec : {M : Type 1} → statement M
 role-grants-spec = tie.close (tie.spec (λ c. search needs) (λ c. search needs) returns returns-2)

@@ -3,10 +3,10 @@ use Rattle.origins.proofs.numbers.named_range.Statement.{statement}
 use Rattle.origins.proofs.numbers.named_range.Tie as tie
 
 returns : tie.Need-returns
-returns c = rw (c .before .o .given .1)
+returns c = let o : tie.After-o = search in rw (o .o .given .1)
 
 returns-2 : tie.Need-returns-2
-returns-2 c = rw (c .before .o2 .given .1)
+returns-2 c = let o2 : tie.After-o2 = search in rw (o2 .o2 .given .1)
 
 pub named-range-spec : {M : Type 1} → statement M
 named-range-spec = tie.close (tie.spec (λ c. search needs) (λ c. search needs) returns returns-2)

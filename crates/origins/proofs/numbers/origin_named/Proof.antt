@@ -3,10 +3,10 @@ use Rattle.origins.proofs.numbers.origin_named.Statement.{statement}
 use Rattle.origins.proofs.numbers.origin_named.Tie as tie
 
 returns : tie.Need-returns
-returns c = rw (c .before .o .given .1)
+returns c = let o : tie.After-o = search in rw (o .o .given .1)
 
 returns-2 : tie.Need-returns-2
-returns-2 c = rw (c .before .o2 .given .1)
+returns-2 c = let o2 : tie.After-o2 = search in rw (o2 .o2 .given .1)
 
 pub origin-named-spec : {M : Type 1} → statement M
 origin-named-spec =

@@ -3,10 +3,10 @@ use Rattle.origins.proofs.standing.creates_in.Statement.{statement}
 use Rattle.origins.proofs.standing.creates_in.Tie as tie
 
 returns : tie.Need-returns
-returns c = λ y. rw (c .before .o .given .1)
+returns c = let o : tie.After-o = search in λ y. rw (o .o .given .1)
 
 returns-2 : tie.Need-returns-2
-returns-2 c = λ y. rw (c .before .before .o2 .given .1)
+returns-2 c = let o2 : tie.After-o2 = search in λ y. rw (o2 .o2 .given .1)
 
 pub creates-in-spec : {M : Type 1} → statement M
 creates-in-spec = tie.close (tie.spec (λ c. search needs) (λ c. search needs) returns returns-2)

@@ -9,8 +9,8 @@ use Rattle.origins.proofs.terms.admits.Tie as tie
 returns : tie.Need-returns
 unfolding admitted
 returns c =
-    let a = c .before .before .before .before .before .before .args in
-    rw (c .before .before .before .before .member .ensures, c .before .before .member2 .ensures, c .member3 .ensures)
+    let member2 : tie.After-member2 = search in let member : tie.After-member = search in let start : tie.Start = search in let a = start .args in
+    rw (member .member .ensures, member2 .member2 .ensures, c .member3 .ensures)
     (left-each (admittedTests (termsIn (a .t)) (a .at)))
 
 pub admits-spec : {M : Type 1} → statement M

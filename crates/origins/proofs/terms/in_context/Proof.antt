@@ -8,7 +8,7 @@ use Rattle.origins.proofs.terms.in_context.Tie as tie
 returns : tie.Need-returns
 unfolding inContext
 returns c =
-    let at = c .before .before .before .args .at in
+    let start : tie.Start = search in let at = start .args .at in
     left-each (ltb (at .hour) 24 ∷ ltb (at .place) 16 ∷ ltb (at .device) 16 ∷ [])
 
 pub in-context-spec : {M : Type 1} → statement M

@@ -34,94 +34,93 @@ Inv-loop2 bound r roles authorities founded created table n enrolled count i₀ 
 abbrev μ-loop2 : tie.MeasureT-loop2
 μ-loop2 bound r roles authorities founded created table n enrolled count i₀ i = bound - i
 
--- the way back, from each landmark to the one before it
-abbrev begun : tie.After-places Inv-loop μ-loop Inv-loop2 μ-loop2 → tie.Start Inv-loop μ-loop Inv-loop2 μ-loop2
-begun c = c .before .before .before .before
+-- places of the function, each found by its type
+abbrev start : tie.Start Inv-loop μ-loop Inv-loop2 μ-loop2 → tie.Start Inv-loop μ-loop Inv-loop2 μ-loop2
+start c = c
 
-abbrev counting : tie.In-loop Inv-loop μ-loop Inv-loop2 μ-loop2 → tie.After-places Inv-loop μ-loop Inv-loop2 μ-loop2
-counting c = c .before .before
+abbrev counting : tie.At-loop Inv-loop μ-loop Inv-loop2 μ-loop2 → tie.At-loop Inv-loop μ-loop Inv-loop2 μ-loop2
+counting c = c
 
-abbrev counted : tie.At-loop2 Inv-loop μ-loop Inv-loop2 μ-loop2 → tie.At-loop Inv-loop μ-loop Inv-loop2 μ-loop2
-counted c = c .before .before
+abbrev turn : tie.At-loop2 Inv-loop μ-loop Inv-loop2 μ-loop2 → tie.At-loop2 Inv-loop μ-loop Inv-loop2 μ-loop2
+turn c = c
 
-abbrev read : tie.After-granted-by Inv-loop μ-loop Inv-loop2 μ-loop2 → tie.After-capability-held Inv-loop μ-loop Inv-loop2 μ-loop2
-read c = c .before .before .before
+abbrev places : tie.After-places Inv-loop μ-loop Inv-loop2 μ-loop2 → tie.After-places Inv-loop μ-loop Inv-loop2 μ-loop2
+places c = c
 
-abbrev turn : tie.After-granted-by Inv-loop μ-loop Inv-loop2 μ-loop2 → tie.In-loop2 Inv-loop μ-loop Inv-loop2 μ-loop2
-turn c = read c .before .before .before .before
+abbrev begun : tie.After-keeps-place Inv-loop μ-loop Inv-loop2 μ-loop2 → tie.Start Inv-loop μ-loop Inv-loop2 μ-loop2
+begun c = search
+
+abbrev turned : tie.After-keeps-place Inv-loop μ-loop Inv-loop2 μ-loop2 → tie.At-loop2 Inv-loop μ-loop Inv-loop2 μ-loop2
+turned c = search
 
 loop-holds : tie.Need-loop-holds Inv-loop μ-loop Inv-loop2 μ-loop2
 unfolding tally
 loop-holds c = search needs
 
 mul-c : tie.Need-mul-c Inv-loop μ-loop Inv-loop2 μ-loop2
-mul-c c = omega (arith, counting c .places .ensures .0)
+mul-c c = omega (arith, places (search) .places .ensures .0)
 
 element-copy-out-c : tie.Need-element-copy-out-c Inv-loop μ-loop Inv-loop2 μ-loop2
-element-copy-out-c c = omega (arith, counting c .places .ensures .0)
+element-copy-out-c c = omega (arith, places (search) .places .ensures .0)
 
 bump-requires : tie.Need-bump-requires Inv-loop μ-loop Inv-loop2 μ-loop2
 bump-requires c κs =
-    let l = c .before .before in
-    let cs = begun (counting l) .args .t1 .capabilities in
-    let n = l .before .loop .n in
-    rw (l .before .loop .inv .1) (omega (arith, counting l .places .ensures .0, tally-le cs (capabilityHeld (capabilityAt cs n .origin)) n))
+    let l = counting (search) .loop in
+    let cs = start (search) .args .t1 .capabilities in
+    rw (l .inv .1) (omega (arith, places (search) .places .ensures .0, tally-le cs (capabilityHeld (capabilityAt cs (l .n) .origin)) (l .n)))
 
 loop-again : tie.Need-loop-again Inv-loop μ-loop Inv-loop2 μ-loop2
-loop-again c =
-    let l = c .before .before .before in
-    (search needs, tally-more (begun (counting l) .args .t1 .capabilities) (l .before .loop .n) (l .before .loop .inv .1) (c .bump .ensures))
+loop-again c = (search needs, tally-more (start (search) .args .t1 .capabilities) (counting (search) .loop .n) (search) (c .bump .ensures))
 
 loop2-holds : tie.Need-loop2-holds Inv-loop μ-loop Inv-loop2 μ-loop2
 unfolding allBelow
 loop2-holds c =
-    let l = c .before .loop in
-    let r = begun (c .before .before) .args .t1 in (
+    let l = counting (search) .loop in
+    let r = start (search) .args .t1 in (
       search needs,
       ap length (l .inv .1) ∙ tally-length (r .capabilities) (l .n),
-      (λ few. l .inv .1 ∙ ap (tally (r .capabilities)) {x = l .n} {y = r .count} (omega (arith, c .before .before .places .ensures .1 few, c .loop-test .left))),
+      (λ few. l .inv .1 ∙ ap (tally (r .capabilities)) {x = l .n} {y = r .count} (omega (arith, places (search) .places .ensures .1 few))),
       (λ few. refl),
     )
 
 -- what the code finds of a place is what the rules say of it
 found : (c : tie.After-keeps-place Inv-loop μ-loop Inv-loop2 μ-loop2) →
-    let l = turn (c .before .before .before) in
-    let r = begun (counted (l .before) .before) .args .t1 in
-    r .count ≤ 256 → c .keeps-place .result ≡ placeKeeps (r .enrolled) (r .roles) (r .count) (r .capabilities) (l .before .loop2 .i) (capabilityAt (r .capabilities) (l .before .loop2 .i))
+    let i = turned c .loop2 .i in
+    let r = begun c .args .t1 in
+    r .count ≤ 256 → c .keeps-place .result ≡ placeKeeps (r .enrolled) (r .roles) (r .count) (r .capabilities) i (capabilityAt (r .capabilities) i)
 found c few =
-    let there = c .before in
-    let u = there .before in
-    let grants = u .before in
-    let held = read grants in
-    let l = turn grants .before .loop2 in
-    let first = counted (turn grants .before) in
-    let p = first .before in
-    let r = begun p .args .t1 in
+    let first = counting (search) in
+    let founded : tie.After-founded-roles Inv-loop μ-loop Inv-loop2 μ-loop2 = search in
+    let known : tie.After-authorities-of Inv-loop μ-loop Inv-loop2 μ-loop2 = search in
+    let there : tie.After-present-in Inv-loop μ-loop Inv-loop2 μ-loop2 = search in
+    let u : tie.After-allowance-of Inv-loop μ-loop Inv-loop2 μ-loop2 = search in
+    let grants : tie.After-granted-by Inv-loop μ-loop Inv-loop2 μ-loop2 = search in
+    let held : tie.After-capability-held Inv-loop μ-loop Inv-loop2 μ-loop2 = search in
+    let role : tie.After-role-held Inv-loop μ-loop Inv-loop2 μ-loop2 = search in
+    let l = turned c .loop2 in
+    let r = begun c .args .t1 in
     c .keeps-place .ensures
-    ∙ place-agrees (r .enrolled) (r .roles) (r .count) (r .capabilities) (l .i) (held .before .before .role-held .result % 32) (held .capability-held .result) _ (getD (first .loop .table) (l .i) 0) (p .before .before .authorities-of .result) _ _
-    (held-placed (capabilityAt (r .capabilities) (l .i) .origin) _ _ (held .before .before .role-held .ensures) (held .capability-held .ensures) (omega (arith, held .capability-held))) (p .before .founded-roles .ensures) (p .before .before .authorities-of .ensures)
+    ∙ place-agrees (r .enrolled) (r .roles) (r .count) (r .capabilities) (l .i) (role .role-held .result % 32) (held .capability-held .result) _ (getD (first .loop .table) (l .i) 0) (known .authorities-of .result) _ _
+    (held-placed (capabilityAt (r .capabilities) (l .i) .origin) _ _ (role .role-held .ensures) (held .capability-held .ensures) (omega (arith, held .capability-held))) (founded .founded-roles .ensures) (known .authorities-of .ensures)
     (there .present-in .ensures (capabilityAt (r .capabilities) (held .capability-held .result))) (rw (← grants .granted-by .ensures) (u .allowance-of .ensures))
-    (ap (λ t. getD t (l .i) 0) (l .inv .2 few) ∙ tally-at (r .capabilities) (l .i) (r .count) (omega (arith, turn grants .loop2-test .taken, begun p .pre)))
+    (ap (λ t. getD t (l .i) 0) (l .inv .2 few) ∙ tally-at (r .capabilities) (l .i) (r .count) (omega (arith, begun c .pre)))
 
 returns : tie.Need-returns Inv-loop μ-loop Inv-loop2 μ-loop2
-returns c few =
-    let l = turn (c .before .before .before .before) .before .loop2 in
-    all-fails _ (l .i) _ (omega arith) (sym (found (c .before) few) ∙ not-true _ (c .if1 .taken))
+returns c few = all-fails _ (turn (search) .loop2 .i) _ (omega arith) (sym (found (search) few) ∙ not-true _ (c .if1 .taken))
 
 add-i : tie.Need-add-i Inv-loop μ-loop Inv-loop2 μ-loop2
-add-i c =
-    let l = turn (c .before .before .before .before) in
-    omega (arith, l .loop2-test .taken, begun (counted (l .before) .before) .pre)
+add-i c = omega (arith, start (search) .pre)
 
 loop2-again : tie.Need-loop2-again Inv-loop μ-loop Inv-loop2 μ-loop2
 loop2-again c =
-    let l = turn (c .before .before .before .before) .before .loop2 in
-    (search needs, l .inv .1, l .inv .2, (λ few. all-more (l .i) _ (l .inv .3 few) (sym (not-false _ (c .if1 .left)) ∙ found (c .before) few)))
+    let l = turn (search) .loop2 in
+    (search needs, l .inv .1, l .inv .2, (λ few. all-more (l .i) _ (l .inv .3 few) (sym (not-false _ (c .if1 .left)) ∙ found (search) few)))
 
 returns-2 : tie.Need-returns-2 Inv-loop μ-loop Inv-loop2 μ-loop2
 returns-2 c few =
-    let r = begun (counted (c .before) .before) .args .t1 in
-    c .before .loop2 .inv .3 few ∙ ap (λ n. allBelow n (λ n. placeKeeps (r .enrolled) (r .roles) (r .count) (r .capabilities) n (capabilityAt (r .capabilities) n))) {x = c .before .loop2 .i} (omega arith)
+    let r = start (search) .args .t1 in
+    let l = turn (search) .loop2 in
+    l .inv .3 few ∙ ap (λ n. allBelow n (λ n. placeKeeps (r .enrolled) (r .roles) (r .count) (r .capabilities) n (capabilityAt (r .capabilities) n))) {x = l .i} (omega arith)
 
 pub capabilities-keep-spec : {M : Type 1} → statement M
 capabilities-keep-spec =

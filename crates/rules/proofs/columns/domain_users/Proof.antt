@@ -22,12 +22,12 @@ loop-holds c = (search needs, (search needs, λ d h. getD-replicate 8 d 0 0 h))
 
 loop-again : tie.Need-loop-again Inv-loop μ-loop
 loop-again c =
-    let l = c .before .before .before .before .loop in
-    let domains = c .before .before .before .before .before .args .domains .now in
+    let at-loop : tie.At-loop Inv-loop μ-loop = search in let start : tie.Start Inv-loop μ-loop = search in let l = at-loop .loop in
+    let domains = start .args .domains .now in
     (search needs, (simp length-set (l .inv .1 .0), λ d h. rw (c .single .ensures) (groups-more (λ (u : ℕ). getD domains u 0) (l .table) (l .i) _ (l .inv .1 .0) (l .inv .1 .1) refl d h)))
 
 returns : tie.Need-returns Inv-loop μ-loop
-returns c = λ d h. c .before .loop .inv .1 .1 d h ∙ ap (masked _) (omega arith)
+returns c = let at-loop : tie.At-loop Inv-loop μ-loop = search in λ d h. at-loop .loop .inv .1 .1 d h ∙ ap (masked _) (omega arith)
 
 pub domain-users-spec : {M : Type 1} → statement M
 domain-users-spec =

@@ -22,11 +22,11 @@ loop-holds c = search needs
 
 loop-again : tie.Need-loop-again Inv-loop μ-loop
 loop-again c =
-    let l = c .before .before .before .loop in
+    let at-loop : tie.At-loop Inv-loop μ-loop = search in let l = at-loop .loop in
     (search needs, masked-more (l .i) _ (l .inv .1) (ap (bitOr (l .mask)) (c .single .ensures)))
 
 returns : tie.Need-returns Inv-loop μ-loop
-returns c = c .before .loop .inv .1 ∙ ap (masked _) (omega arith)
+returns c = let at-loop : tie.At-loop Inv-loop μ-loop = search in at-loop .loop .inv .1 ∙ ap (masked _) (omega arith)
 
 pub founded-roles-spec : {M : Type 1} → statement M
 founded-roles-spec =

@@ -25,9 +25,9 @@ loop-holds c = search needs
 
 loop-again : tie.Need-loop-again Inv-loop μ-loop
 loop-again c =
-    let l = c .before .before .before .before .loop in
-    let users = c .before .before .before .before .before .domain-users in
-    let a = c .before .before .before .before .before .before .args in (
+    let at-loop : tie.At-loop Inv-loop μ-loop = search in let domain-users : tie.After-domain-users Inv-loop μ-loop = search in
+    let start : tie.Start Inv-loop μ-loop = search in let l = at-loop .loop in let users = domain-users .domain-users in
+    let a = start .args in (
       search needs,
       all-more (l .i) _ (l .inv .1)
           (ap (λ t. l .ok && t)
@@ -36,9 +36,9 @@ loop-again c =
 
 returns : tie.Need-returns Inv-loop μ-loop
 returns c =
-    let a = c .before .before .before .args in
-    c .before .loop .inv .1
-    ∙ ap (λ n. allBelow n (λ k. roleKeeps (a .enrolled) (a .domains .now) k (roleAt (a .t3) k))) {x = c .before .loop .i} {y = 32} (omega arith)
+    let at-loop : tie.At-loop Inv-loop μ-loop = search in let start : tie.Start Inv-loop μ-loop = search in let a = start .args in
+    at-loop .loop .inv .1
+    ∙ ap (λ n. allBelow n (λ k. roleKeeps (a .enrolled) (a .domains .now) k (roleAt (a .t3) k))) {x = at-loop .loop .i} {y = 32} (omega arith)
 
 pub roles-keep-spec : {M : Type 1} → statement M
 roles-keep-spec =

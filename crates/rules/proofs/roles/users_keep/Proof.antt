@@ -24,14 +24,14 @@ loop-holds c = search needs
 
 loop-again : tie.Need-loop-again Inv-loop μ-loop
 loop-again c =
-    let l = c .before .before .before .loop in
+    let at-loop : tie.At-loop Inv-loop μ-loop = search in let l = at-loop .loop in
     (search needs, all-more (l .i) _ (l .inv .1) (ap (λ t. l .ok && t) (c .user-keeps .ensures)))
 
 returns : tie.Need-returns Inv-loop μ-loop
 returns c =
-    let a = c .before .before .args in
-    c .before .loop .inv .1
-    ∙ ap (λ n. allBelow n (λ u. userKeeps (a .enrolled) u (getD (a .domains .now) u 0))) {x = c .before .loop .i} {y = 64} (omega arith)
+    let at-loop : tie.At-loop Inv-loop μ-loop = search in let start : tie.Start Inv-loop μ-loop = search in let a = start .args in
+    at-loop .loop .inv .1
+    ∙ ap (λ n. allBelow n (λ u. userKeeps (a .enrolled) u (getD (a .domains .now) u 0))) {x = at-loop .loop .i} {y = 64} (omega arith)
 
 pub users-keep-spec : {M : Type 1} → statement M
 users-keep-spec =

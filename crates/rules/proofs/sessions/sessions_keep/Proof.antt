@@ -25,24 +25,23 @@ loop-holds c = search needs
 
 loop-again : tie.Need-loop-again Inv-loop μ-loop
 loop-again c =
-    let there = c .before in
-    let u = there .before in
-    let held = u .before .before in
-    let role = held .before .before in
-    let l = role .before .before .before in
-    let r = l .before .args .t1 in (
+    let there : tie.After-present-in Inv-loop μ-loop = search in let held : tie.After-capability-held Inv-loop μ-loop = search in
+    let role : tie.After-role-held Inv-loop μ-loop = search in let l : tie.At-loop Inv-loop μ-loop = search in
+    let start : tie.Start Inv-loop μ-loop = search in
+    let r = start .args .t1 in (
       search needs,
       all-more (l .loop .i) _ (l .loop .inv .1)
           (ap (λ t. l .loop .ok && t)
           (c .session-keeps .ensures
-          ∙ session-agrees (r .enrolled) (r .roles) (r .count) (r .capabilities) (l .loop .i) (role .role-held .result % 32) (held .capability-held .result) 0 (sessionAt (r .sessions) (l .loop .i)) _ _ (held-placed (sessionAt (r .sessions) (l .loop .i) .on) _ _ (role .role-held .ensures) (held .capability-held .ensures) (omega arith)) (there .present-in .ensures _) (u .allowance-of .ensures))),
+          ∙ session-agrees (r .enrolled) (r .roles) (r .count) (r .capabilities) (l .loop .i) (role .role-held .result % 32) (held .capability-held .result) 0 (sessionAt (r .sessions) (l .loop .i)) _ _ (held-placed (sessionAt (r .sessions) (l .loop .i) .on) _ _ (search) (search) (omega arith)) (there .present-in .ensures _) (search))),
     )
 
 returns : tie.Need-returns Inv-loop μ-loop
 returns c =
-    let r = c .before .before .args .t1 in
-    c .before .loop .inv .1
-    ∙ ap (λ n. allBelow n (λ n. sessionKeeps (r .enrolled) (r .roles) (r .count) (r .capabilities) n (sessionAt (r .sessions) n))) {x = c .before .loop .i} {y = 64} (omega arith)
+    let at-loop : tie.At-loop Inv-loop μ-loop = search in let start : tie.Start Inv-loop μ-loop = search in
+    let r = start .args .t1 in
+    at-loop .loop .inv .1
+    ∙ ap (λ n. allBelow n (λ n. sessionKeeps (r .enrolled) (r .roles) (r .count) (r .capabilities) n (sessionAt (r .sessions) n))) {x = at-loop .loop .i} {y = 64} (omega arith)
 
 pub sessions-keep-spec : {M : Type 1} → statement M
 sessions-keep-spec =

@@ -3,10 +3,10 @@ use Rattle.slots.proofs.counting.created_in.Statement.{statement}
 use Rattle.slots.proofs.counting.created_in.Tie as tie
 
 returns : tie.Need-returns
-returns c = rw (c .before .o .given .1)
+returns c = let o : tie.After-o = search in rw (o .o .given .1)
 
 returns-2 : tie.Need-returns-2
-returns-2 c = rw (c .before .before .o2 .given .1, c .raised .ensures)
+returns-2 c = let o2 : tie.After-o2 = search in rw (o2 .o2 .given .1, c .raised .ensures)
 
 pub created-in-spec : {M : Type 1} → statement M
 created-in-spec = tie.close (tie.spec (λ c. search needs) (λ c. search needs) (λ c κs. search needs) returns returns-2)

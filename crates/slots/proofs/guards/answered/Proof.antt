@@ -4,7 +4,7 @@ use Rattle.slots.proofs.guards.answered.Statement.{statement}
 use Rattle.slots.proofs.guards.answered.Tie as tie
 
 returns : tie.Need-returns
-returns c = λ gs n p e f. verdict-refused gs n _ e (c .before .k .given .1)
+returns c = let k : tie.After-k = search in λ gs n p e f. verdict-refused gs n _ e (k .k .given .1)
 
 returns-2 : tie.Need-returns-2
 returns-2 c = λ gs n p e f.

@@ -10,11 +10,11 @@ use Rattle.slots.proofs.guards.raised.Tie as tie
 
 returns : tie.Need-returns
 unfolding raisedOf
-returns c = omega arith ∙ cond-true _ (suc (c .before .args .x)) (c .before .args .x) (lt-ltb _ _ (c .if1 .taken))
+returns c = let start : tie.Start = search in omega arith ∙ cond-true _ (suc (start .args .x)) (start .args .x) (lt-ltb _ _ (c .if1 .taken))
 
 returns-2 : tie.Need-returns-2
 unfolding raisedOf
-returns-2 c = cond-false _ (suc (c .before .args .x)) (c .before .args .x) (le-ltb _ _ (c .if1 .left))
+returns-2 c = let start : tie.Start = search in cond-false _ (suc (start .args .x)) (start .args .x) (le-ltb _ _ (c .if1 .left))
 
 pub raised-spec : {M : Type 1} → statement M
 raised-spec =
