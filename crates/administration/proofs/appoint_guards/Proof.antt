@@ -7,10 +7,12 @@ use Rattle.administration.proofs.appoint_guards.Tie as tie
 
 returns : tie.Need-returns
 returns c =
+    let first3 : tie.After-first3 = search in let first2 : tie.After-first2 = search in let first : tie.After-first = search in
+    let member2 : tie.After-member2 = search in let member : tie.After-member = search in let start : tie.Start = search in
     test-unless _ _ _ _ _ (c .first4 .ensures) refl refl
-    (test-unless _ _ _ _ _ (c .before .first3 .ensures) (ap (λ (x : Bool). not (x && c .before .before .before .before .before .before .before .before .args .x .founded)) (c .before .before .before .before .before .before .before .member .ensures)) refl
-    (test-unless _ _ _ _ _ (c .before .before .before .first2 .ensures) refl refl
-    (test _ _ _ (c .before .before .before .before .before .first .ensures) (c .before .before .before .before .before .before .member2 .ensures) refl nothing-more)))
+    (test-unless _ _ _ _ _ (first3 .first3 .ensures) (ap (λ (x : Bool). not (x && start .args .x .founded)) (member .member .ensures)) refl
+    (test-unless _ _ _ _ _ (first2 .first2 .ensures) refl refl
+    (test _ _ _ (first .first .ensures) (member2 .member2 .ensures) refl nothing-more)))
 
 pub appoint-guards-spec : {M : Type 1} → statement M
 appoint-guards-spec =

@@ -10,7 +10,8 @@ use Rattle.administration.proofs.clock_guards.Tie as tie
 
 returns : tie.Need-returns
 returns c =
-    known 2 _ _ (and-i (bits 32 (c .before .args .tick)) true (lt→ltb _ _ (c .before .fits .tick .fits)) tt)
+    let start : tie.Start = search in
+    known 2 _ _ (and-i (bits 32 (start .args .tick)) true (lt→ltb _ _ (start .fits .tick .fits)) tt)
     (test _ _ _ (c .first .ensures) refl refl nothing-more)
 
 pub clock-guards-spec : {M : Type 1} → statement M

@@ -11,10 +11,10 @@ use Rattle.administration.proofs.decide_dismiss.Tie as tie
 returns : tie.Need-returns
 unfolding dismissDecision
 returns c =
-    let x = c .before .before .before .before .args in
+    let excluding64 : tie.After-excluding64 = search in let start : tie.Start = search in let x = start .args in
     let q = dismissing (x .v .enrolled) (x .v .role) (x .user) (x .role) in
-    c .settle .ensures (q .guards) 0 (withRoleSlot (x .v) (q .after)) tt (c .before .before .dismiss-guards .ensures)
-    (λ g. (refl, rw (c .before .excluding64 .ensures, in-range (x .user) 64 (passed 2 (q .guards) g .0))))
+    c .settle .ensures (q .guards) 0 (withRoleSlot (x .v) (q .after)) tt (search)
+    (λ g. (refl, rw (excluding64 .excluding64 .ensures, in-range (x .user) 64 (passed 2 (q .guards) g .0))))
 
 pub decide-dismiss-spec : {M : Type 1} → statement M
 decide-dismiss-spec = tie.close (tie.spec (λ c κs. search needs) (λ c κs. search needs) (λ c κs. search needs) returns)

@@ -11,9 +11,9 @@ use Rattle.administration.proofs.decide_found.Tie as tie
 returns : tie.Need-returns
 unfolding foundDecision
 returns c =
-    let x = c .before .before .before .args in
+    let start : tie.Start = search in let x = start .args in
     let q = founding (x .v .role) (x .role) (x .domain) (x .hours) (x .places) (x .devices) in
-    c .settle .ensures (q .guards) 0 (withRoleSlot (x .v) (q .after)) tt (c .before .found-guards .ensures)
+    c .settle .ensures (q .guards) 0 (withRoleSlot (x .v) (q .after)) tt (search)
     (λ g.
     let f = passed 2 (q .guards) g in
     (refl, rw (in-range (x .domain) 8 (f .1 .0), in-range (x .places) 65536 (f .1 .1 .1 .0), in-range (x .devices) 65536 (f .1 .1 .1 .1 .0))))

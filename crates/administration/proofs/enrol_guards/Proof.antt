@@ -6,8 +6,9 @@ use Rattle.administration.proofs.enrol_guards.Tie as tie
 
 returns : tie.Need-returns
 returns c =
+    let first : tie.After-first = search in let member : tie.After-member = search in
     test-unless _ _ _ _ _ (c .first2 .ensures) refl refl
-    (test _ _ _ (c .before .first .ensures) (c .before .before .member .ensures) refl nothing-more)
+    (test _ _ _ (first .first .ensures) (member .member .ensures) refl nothing-more)
 
 pub enrol-guards-spec : {M : Type 1} → statement M
 enrol-guards-spec =

@@ -8,7 +8,7 @@ use Rattle.administration.proofs.found_guards.Tie as tie
 returns : tie.Need-returns
 returns c =
     test-unless _ _ _ _ _ (c .first2 .ensures) refl refl
-    (test _ _ _ (c .before .first .ensures) refl refl nothing-more)
+    (test _ _ _ (search) refl refl nothing-more)
 
 pub found-guards-spec : {M : Type 1} → statement M
 found-guards-spec =

@@ -7,9 +7,10 @@ use Rattle.administration.proofs.grant_guards.Tie as tie
 
 returns : tie.Need-returns
 returns c =
+    let first2 : tie.After-first2 = search in let first : tie.After-first = search in let member : tie.After-member = search in
     test-unless _ _ _ _ _ (c .first3 .ensures) refl refl
-    (test-unless _ _ _ _ _ (c .before .first2 .ensures) refl refl
-    (test _ _ _ (c .before .before .before .first .ensures) (c .before .before .before .before .member .ensures) refl nothing-more))
+    (test-unless _ _ _ _ _ (first2 .first2 .ensures) refl refl
+    (test _ _ _ (first .first .ensures) (member .member .ensures) refl nothing-more))
 
 pub grant-guards-spec : {M : Type 1} → statement M
 grant-guards-spec =

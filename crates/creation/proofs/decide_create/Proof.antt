@@ -19,18 +19,14 @@ use Rattle.creation.proofs.decide_create.Tie as tie
 returns : tie.Need-returns
 unfolding createDecision
 returns c =
-    let count = c .before .before in
-    let new = count .before in
-    let parent = new .before in
-    let k = parent .before in
-    let allows = k .before in
-    let named = allows .before in
-    let x = named .before .args in
+    let count : tie.After-raised = search in let new : tie.After-made = search in let parent : tie.After-created-in = search in
+    let k : tie.After-create-guards = search in let allows : tie.After-origin-allows = search in let named : tie.After-origin-named = search in
+    let start : tie.Start = search in let x = start .args in
     let v = x .v in
     let o = namedOrigin (x .origin) in
     let q = creatingOn v (x .authorities .now) o (x .user) (x .origin) (x .at) (x .plan) in
     c .settle .ensures (q .guards) (q .result) (withCreatedSlots v (suc (v .count)) (createdIn o (v .parent)) (q .after)) tt
-    (create-agrees v (x .authorities .now) (x .user) (x .origin) (x .at) (x .plan) (k .create-guards .ensures) (allows .origin-allows .ensures) (named .origin-named .ensures))
+    (create-agrees v (x .authorities .now) (x .user) (x .origin) (x .at) (x .plan) (k .create-guards .ensures) (allows .origin-allows .ensures) (search))
     (λ g. (
       refl,
       rw (

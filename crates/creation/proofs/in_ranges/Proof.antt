@@ -14,10 +14,11 @@ use Rattle.creation.proofs.in_ranges.Tie as tie
 
 returns : tie.Need-returns
 returns c =
-    let x = c .before .before .before .before .before .before .before .before .before .args in
-    let first : x .plan .first < 2 ^ 32 = omega (arith, c .struct-known7 .given) in
-    let last : x .plan .last < 2 ^ 32 = omega (arith, c .struct-known7 .given) in
-    rw (c .before .before .before .before .before .before .before .before .named-range .ensures, c .before .before .before .before .before .before .before .in-context .ensures, T→true (bits 32 (x .plan .first)) (lt→ltb _ _ first), T→true (bits 32 (x .plan .last)) (lt→ltb _ _ last))
+    let in-context : tie.After-in-context = search in let named-range : tie.After-named-range = search in
+    let start : tie.Start = search in let x = start .args in
+    let first : x .plan .first < 2 ^ 32 = omega arith in
+    let last : x .plan .last < 2 ^ 32 = omega arith in
+    rw (named-range .named-range .ensures, in-context .in-context .ensures, T→true (bits 32 (x .plan .first)) (lt→ltb _ _ first), T→true (bits 32 (x .plan .last)) (lt→ltb _ _ last))
     (left-each (isUser (x .user) ∷ isOrigin (namedOrigin (x .origin)) ∷ inContext (x .at) ∷ drop 5 (createRanges (x .user) (namedOrigin (x .origin)) (x .at) (x .plan))))
 
 pub in-ranges-spec : {M : Type 1} → statement M

@@ -3,7 +3,7 @@ use Rattle.creation.proofs.made.Statement.{statement}
 use Rattle.creation.proofs.made.Tie as tie
 
 returns : tie.Need-returns
-returns c = rw (c .before .before .before .before .before .origin-named .ensures)
+returns c = let origin-named : tie.After-origin-named = search in rw (origin-named .origin-named .ensures)
 
 pub made-spec : {M : Type 1} → statement M
 made-spec =

@@ -10,9 +10,9 @@ use Rattle.sessions.proofs.decide_close.Tie as tie
 returns : tie.Need-returns
 unfolding closeDecision
 returns c =
-    let k = c .before .before in
-    let v = k .before .before .args .v in
-    c .settle .ensures _ 0 _ tt (k .close-guards .ensures) (λ g. (refl, ap (λ (x : Session). withSessionSlots v (v .capability) x) (c .before .blank-session .ensures)))
+    let start : tie.Start = search in
+    let v = start .args .v in
+    c .settle .ensures _ 0 _ tt (search) (λ g. (refl, ap (λ (x : Session). withSessionSlots v (v .capability) x) (search)))
 
 pub decide-close-spec : {M : Type 1} → statement M
 decide-close-spec = tie.close (tie.spec (λ c κs. search needs) (λ c κs. search needs) (λ c κs. search needs) returns)

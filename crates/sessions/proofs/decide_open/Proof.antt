@@ -15,18 +15,17 @@ use Rattle.sessions.proofs.decide_open.Tie as tie
 returns : tie.Need-returns
 unfolding openDecision
 returns c =
-    let used = c .before .before in
-    let named = used .before in
-    let x = named .before .before .args in
+    let new-session : tie.After-new-session = search in let used : tie.After-used-in = search in let named : tie.After-origin-named = search in
+    let start : tie.Start = search in let x = start .args in
     let v = x .v in
     let o = namedOrigin (x .on) in
     let q = openingOn v o (x .session) (x .user) (x .at) in
-    c .settle .ensures (q .guards) 0 (withSessionSlots v (usedIn o (v .capability)) (q .after)) tt (named .before .open-guards .ensures)
+    c .settle .ensures (q .guards) 0 (withSessionSlots v (usedIn o (v .capability)) (q .after)) tt (search)
     (λ g.
     let f = passed 2 (q .guards) g in (
       refl,
       rw (
-        c .before .new-session .ensures,
+        new-session .new-session .ensures,
         used .used-in .ensures,
         named .origin-named .ensures,
         named-exact (x .on) (f .1 .1 .0),

@@ -12,11 +12,8 @@ use Rattle.sessions.proofs.permitted.Tie as tie
 returns : tie.Need-returns
 unfolding permitsIn
 returns c =
-    let granted = c .before in
-    let alive = granted .before .before in
-    let entitled = alive .before in
-    let terms = entitled .before .before in
-    let a = terms .before .args in
+    let granted : tie.After-member = search in let alive : tie.After-alive-in = search in let entitled : tie.After-member-in = search in
+    let terms : tie.After-allowance-of = search in let start : tie.Start = search in let a = start .args in
     let e = terms .allowance-of .ensures in
     rw (
       entitled .member-in .ensures,
