@@ -7,13 +7,15 @@ use Rattle.apply.proofs.apply.Statement.{statement}
 use Rattle.apply.proofs.apply.Tie as tie
 
 apply-trusted-requires : tie.Need-apply-trusted-requires
-apply-trusted-requires c κs = true→T _ (sym (c .before .well-formed .ensures) ∙ c .if1 .taken)
+apply-trusted-requires c κs = let well-formed : tie.After-well-formed = search in true→T _ (sym (well-formed .well-formed .ensures) ∙ c .if1 .taken)
 
 returns : tie.Need-returns
-returns c = c .apply-trusted .ensures ∙ sym (step-settled (c .before .before .before .args .r) (callOf (c .before .before .before .args .q)) (true→T _ (sym (c .before .before .well-formed .ensures) ∙ c .before .if1 .taken)))
+returns c =
+    let then1 : tie.Then1 = search in let well-formed : tie.After-well-formed = search in let start : tie.Start = search in
+    c .apply-trusted .ensures ∙ sym (step-settled (start .args .r) (callOf (start .args .q)) (true→T _ (sym (well-formed .well-formed .ensures) ∙ then1 .if1 .taken)))
 
 returns-2 : tie.Need-returns-2
-returns-2 c = broken (c .before .before .args .r) (callOf (c .before .before .args .q)) (sym (c .before .well-formed .ensures) ∙ c .if1 .left)
+returns-2 c = let start : tie.Start = search in broken (start .args .r) (callOf (start .args .q)) (sym (search) ∙ c .if1 .left)
 
 pub apply-spec : {M : Type 1} → statement M
 apply-spec =

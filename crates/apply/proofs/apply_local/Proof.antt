@@ -9,22 +9,31 @@ use Rattle.apply.proofs.apply_local.Tie as tie
 
 -- the way back, from each landmark to the one before it
 abbrev viewed : tie.After-decide → tie.After-seen
-viewed c = c .before .before
+viewed c = search
 
 abbrev parent : tie.After-decide → tie.After-parent-at
-parent c = viewed c .before .before .before
+parent c = search
 
 abbrev role : tie.After-decide → tie.After-role-at
-role c = parent c .before .before
+role c = search
 
 abbrev capability : tie.After-decide → tie.After-capability-at
-capability c = role c .before .before
+capability c = search
 
 abbrev session : tie.After-decide → tie.After-session-at
-session c = capability c .before .before
+session c = search
 
 abbrev user : tie.After-decide → tie.After-user-at
-user c = session c .before
+user c = search
+
+abbrev named : tie.After-user-at → tie.After-names-of
+named c = search
+
+abbrev known : tie.After-names-of → tie.After-authorities-of
+known c = search
+
+abbrev begun : tie.After-names-of → tie.Start
+begun c = search
 
 -- each place is within the register
 user-in : (d : tie.After-decide) → user d .user-at .result < 64
@@ -45,16 +54,15 @@ session-in d = session d .session-at .ensures .1
 returns : tie.Need-returns
 unfolding put
 returns c =
-    let d = c .before .before .before .before .before in
-    let v = viewed d in
+    let d : tie.After-decide = search in let v = viewed d in
     let pn = parent d in
     let rn = role d in
     let cn = capability d in
     let sn = session d in
     let un = user d in
-    let m = un .before in
-    let column = m .before .authorities-of in
-    let s = m .before .before .before in
+    let m = named un in
+    let column = known m .authorities-of in
+    let s = begun m in
     commit (s .args .t1) (m .names-of .result) (un .user-at .result) (sn .session-at .result) (cn .capability-at .result) (rn .role-at .result) (pn .parent-at .result)
     (column .result) (s .args .q) (v .seen .result) (d .decide .result) (s .pre) (column .ensures) (m .names-of .ensures)
     (record {
@@ -64,7 +72,7 @@ returns c =
       role = rn .role-at .ensures .0;
       parent = pn .parent-at .ensures .0;
     })
-    (v .seen .ensures) (d .decide .ensures)
+    (v .seen .ensures) (search)
 
 pub apply-local-spec : {M : Type 1} → statement M
 apply-local-spec =
@@ -73,9 +81,9 @@ apply-local-spec =
     (λ c κs. search needs) (λ c κs. search needs) (λ c κs. search needs) (λ c κs. search needs) (λ c. search needs) (λ c. search needs)
     (λ c κs. search needs) (λ c. search needs) (λ c. search needs) (λ c κs. search needs) (λ c. search needs) (λ c. search needs)
     (λ c κs. search needs) (λ c. search needs) (λ c. search needs) (λ c. search needs) (λ c κs. search needs) (λ c κs. search needs)
-    (λ c. omega (arith, user-in (c .before)))
-    (λ c. omega (arith, role-in (c .before .before))) (λ c. omega (arith, role-in (c .before .before)))
-    (λ c. omega (arith, parent-in (c .before .before .before))) (λ c. omega (arith, parent-in (c .before .before .before)))
-    (λ c. omega (arith, capability-in (c .before .before .before .before))) (λ c. omega (arith, capability-in (c .before .before .before .before)))
-    (λ c. omega (arith, session-in (c .before .before .before .before .before))) (λ c. omega (arith, session-in (c .before .before .before .before .before)))
+    (λ c. omega (arith, user-in (search)))
+    (λ c. omega (arith, role-in (search))) (λ c. omega (arith, role-in (search)))
+    (λ c. omega (arith, parent-in (search))) (λ c. omega (arith, parent-in (search)))
+    (λ c. omega (arith, capability-in (search))) (λ c. omega (arith, capability-in (search)))
+    (λ c. omega (arith, session-in (search))) (λ c. omega (arith, session-in (search)))
     returns)

@@ -8,21 +8,22 @@ use Rattle.batch.proofs.apply_all.Statement.{statement}
 use Rattle.batch.proofs.apply_all.Tie as tie
 
 apply-formed-requires : tie.Need-apply-formed-requires
-apply-formed-requires c κs = (true→T _ (sym (c .before .well-formed .ensures) ∙ c .if1 .taken), omega (arith, c .before .before .at-most-64 .ensures))
+apply-formed-requires c κs =
+    let well-formed : tie.After-well-formed = search in
+    (true→T _ (sym (well-formed .well-formed .ensures) ∙ c .if1 .taken), omega arith)
 
 returns : tie.Need-returns
 returns c =
-    let a = c .before .before .before .before .args in
-    let z = c .apply-formed in
-    items-counted (a .start) (a .items) _ (search needs) (a .count) (z .result .register) (z .result .answers) (c .before .before .before .at-most-64 .ensures) (z .ensures)
+    let at-most-64 : tie.After-at-most-64 = search in let start : tie.Start = search in let a = start .args in let z = c .apply-formed in
+    items-counted (a .start) (a .items) _ (search needs) (a .count) (z .result .register) (z .result .answers) (at-most-64 .at-most-64 .ensures) (z .ensures)
 
 returns-2 : tie.Need-returns-2
 returns-2 c =
-    let a = c .before .before .before .before .args in
-    let n = c .before .before .before .at-most-64 in
+    let else1 : tie.Else1 = search in let at-most-64 : tie.After-at-most-64 = search in let start : tie.Start = search in let a = start .args in
+    let n = at-most-64 .at-most-64 in
     items-counted (a .start) (a .items) (n .result) (search needs) (a .count) (a .start) (c .refusals .result) (n .ensures)
     (all-broken (a .start) (a .items) (n .result) (search needs) (c .refusals .result)
-    (sym (c .before .before .well-formed .ensures) ∙ c .before .if1 .left) (omega (arith, n .ensures)) (c .refusals .ensures))
+    (sym (search) ∙ else1 .if1 .left) (omega arith) (c .refusals .ensures))
 
 pub apply-all-spec : {M : Type 1} → statement M
 apply-all-spec =

@@ -15,17 +15,17 @@ abbrev μ-loop : tie.MeasureT-loop
 
 loop-holds : tie.Need-loop-holds Inv-loop μ-loop
 loop-holds c =
-    let s = c .before in
-    (omega arith, playing-start (s .args .start) (s .args .t2) (s .args .n) _ (s .pre .1) (search needs) (s .pre .0) (search needs) (c .no-answers .ensures))
+    let s : tie.Start Inv-loop μ-loop = search in
+    (omega arith, playing-start (s .args .start) (s .args .t2) (s .args .n) _ (search) (search needs) (search) (search needs) (c .no-answers .ensures))
+
+abbrev now : tie.At-loop Inv-loop μ-loop → tie.At-loop Inv-loop μ-loop
+now l = l
 
 loop-again : tie.Need-loop-again Inv-loop μ-loop
-loop-again c =
-    let reply = c .before in
-    let l = reply .before .before in
-    (omega (arith, l .loop-test .taken), playing-more _ _ _ _ _ _ (l .before .loop .inv .1) _ _ (l .loop-test .taken) (reply .apply-trusted .ensures) refl)
+loop-again c = (omega arith, playing-more _ _ _ _ _ _ (now (search) .loop .inv .1) _ _ (search) (search) refl)
 
 returns : tie.Need-returns Inv-loop μ-loop
-returns c = let l = c .before .loop in playing-done _ _ _ _ _ (l .i) (l .inv .1) (omega arith)
+returns c = let l = now (search) .loop in playing-done _ _ _ _ _ (l .i) (l .inv .1) (omega arith)
 
 pub apply-formed-spec : {M : Type 1} → statement M
 apply-formed-spec =
@@ -35,9 +35,9 @@ apply-formed-spec =
     μ-loop
     (λ c κs. search needs)
     loop-holds
-    (λ c. omega (arith, c .before .loop .inv .1 .within)) (λ c. omega (arith, c .before .loop .inv .1 .within))
-    (λ c κs. c .before .before .loop .inv .1 .formed)
-    (λ c. omega (arith, c .before .before .before .loop .inv .1 .within)) (λ c. omega (arith, c .before .before .before .loop .inv .1 .within))
-    (λ c. omega (arith, c .before .before .before .before .loop .inv .1 .within)) (λ c. search needs)
+    (λ c. omega (arith, now (search) .loop .inv .1 .within)) (λ c. omega (arith, now (search) .loop .inv .1 .within))
+    (λ c κs. now (search) .loop .inv .1 .formed)
+    (λ c. omega (arith, now (search) .loop .inv .1 .within)) (λ c. omega (arith, now (search) .loop .inv .1 .within))
+    (λ c. omega (arith, now (search) .loop .inv .1 .within)) (λ c. search needs)
     loop-again
     returns)

@@ -20,18 +20,18 @@ abbrev μ-loop : tie.MeasureT-loop
 
 loop-holds : tie.Need-loop-holds Inv-loop μ-loop
 loop-holds c =
-    let n = c .before .args .n in
+    let start : tie.Start Inv-loop μ-loop = search in let n = start .args .n in
     (omega arith, search needs, rw sub-zero (filled-none n (replicate n (refused 15)) (c .no-answers .result) (c .no-answers .ensures)))
 
 loop-again : tie.Need-loop-again Inv-loop μ-loop
 loop-again c =
-    let l = c .before .loop in
-    (omega arith, simp length-set (l .inv .1), refused-more (l .answers) _ (l .i) (c .before .before .before .args .n) refl (omega arith) (omega arith) ∙ l .inv .2)
+    let at-loop : tie.At-loop Inv-loop μ-loop = search in let start : tie.Start Inv-loop μ-loop = search in let l = at-loop .loop in
+    (omega arith, simp length-set (l .inv .1), refused-more (l .answers) _ (l .i) (start .args .n) refl (omega arith) (omega arith) ∙ l .inv .2)
 
 returns : tie.Need-returns Inv-loop μ-loop
 returns c =
-    let l = c .before .loop in
-    sym (refused-all (l .answers) (l .i) (c .before .before .before .args .n) (omega arith)) ∙ l .inv .2
+    let at-loop : tie.At-loop Inv-loop μ-loop = search in let start : tie.Start Inv-loop μ-loop = search in let l = at-loop .loop in
+    sym (refused-all (l .answers) (l .i) (start .args .n) (omega arith)) ∙ l .inv .2
 
 pub refusals-spec : {M : Type 1} → statement M
 refusals-spec =

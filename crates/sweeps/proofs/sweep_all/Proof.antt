@@ -26,31 +26,28 @@ unfolding rising countBelow
 loop-holds c = (search needs, search needs, refl, refl)
 
 add-marks : tie.Need-add-marks Inv-loop μ-loop
-add-marks c =
-    let t = c .before .before .before .before .before .before .before .before in
-    omega (arith, t .before .loop .inv .1, t .loop-test, one-le _ (c .one-if .ensures))
+add-marks c = omega (arith, one-le _ (c .one-if .ensures))
 
 loop-again : tie.Need-loop-again Inv-loop μ-loop
 loop-again c =
-    let w = c .before .before .before in
-    let g = w .before .before .before .before .before .before in
+    let w : tie.After-swept Inv-loop μ-loop = search in let capability-held : tie.After-capability-held Inv-loop μ-loop = search in
+    let g : tie.At-loop Inv-loop μ-loop = search in let authorities-of : tie.After-authorities-of Inv-loop μ-loop = search in
+    let roles-after : tie.After-roles-after Inv-loop μ-loop = search in let s : tie.Start Inv-loop μ-loop = search in
     let l = g .loop in
-    let a = g .before .before .roles-after in
-    let s = g .before .before .before .before in
+    let a = roles-after .roles-after in
     let amount : length (a .result) ≡ 32 = ap length (a .ensures) ∙ after-amount (s .args .r .roles) (s .args .s) ∙ s .pre in
-    let d = swept-step _ (l .next .capabilities) _ (g .before .authorities-of .ensures) amount (s .args .s) (l .i) _ _ (w .before .before .before .capability-held .ensures) (w .swept .ensures) in (
+    let d = swept-step _ (l .next .capabilities) _ (authorities-of .authorities-of .ensures) amount (s .args .s) (l .i) _ _ (capability-held .capability-held .ensures) (w .swept .ensures) in (
       search needs,
-      omega (arith, l .inv .1, one-le _ (c .one-if .ensures)),
+      omega (arith, one-le _ (c .one-if .ensures)),
       sweep-more _ _ (l .next) (l .i) _ (l .inv .2) d,
       count-more _ (l .i) _ (l .inv .3) (c .one-if .ensures) (newly-step _ (l .i) _ (l .next) _ (l .inv .2) d),
     )
 
 returns : tie.Need-returns Inv-loop μ-loop
 returns c =
-    let g = c .before .before in
+    let g : tie.At-loop Inv-loop μ-loop = search in let s : tie.Start Inv-loop μ-loop = search in
     let l = g .loop in
-    let s = g .before .before .before .before in
-    sweep-done (s .args .r) (s .args .s) _ (l .next) (l .marks) (l .i) _ (g .before .before .roles-after .ensures) (l .inv .2) (l .inv .3) (omega arith) (c .sweep-value .ensures)
+    sweep-done (s .args .r) (s .args .s) _ (l .next) (l .marks) (l .i) _ (search) (l .inv .2) (l .inv .3) (omega arith) (c .sweep-value .ensures)
 
 pub sweep-all-spec : {M : Type 1} → statement M
 sweep-all-spec =

@@ -13,17 +13,15 @@ use Rattle.tree.proofs.amending.amend_order.Tie as tie
 
 returns : tie.Need-returns
 returns c =
-    let k = c .before .before in
-    let b = k .before .before in
-    let u = b .before .before in
-    let s = u .before .before in
+    let k : tie.After-amend-guards = search in let amendment-of : tie.After-amendment-of = search in let b : tie.After-bare-allowance = search in
+    let s : tie.Start = search in
     let r = s .args .t1 in
     let change = changeOf (s .args .change) in
     let limit = ap (λ (t : Terms). t .use-limit) (b .bare-allowance .ensures) in
     ap (orderEffect r) (c .ordered .ensures)
-    ∙ order-by r _ (k .amend-guards .result) (Limit (s .args .n % 256) (k .before .amendment-of .result .limit % 65536))
-    (λ why q. amend-refused r (s .pre) (s .args .user) (s .args .n) change _ _ (u .capability-held .ensures) limit _ (k .before .amendment-of .ensures) _ (k .amend-guards .ensures) q)
-    (λ q. amend-passed r (s .pre) (s .args .user) (s .args .n) change _ _ (u .capability-held .ensures) limit _ (k .before .amendment-of .ensures) _ (k .amend-guards .ensures) q)
+    ∙ order-by r _ (k .amend-guards .result) (Limit (s .args .n % 256) (amendment-of .amendment-of .result .limit % 65536))
+    (λ why q. amend-refused r (search) (s .args .user) (s .args .n) change _ _ (search) limit _ (amendment-of .amendment-of .ensures) _ (search) q)
+    (λ q. amend-passed r (search) (s .args .user) (s .args .n) change _ _ (search) limit _ (amendment-of .amendment-of .ensures) _ (search) q)
 
 pub amend-order-spec : {M : Type 1} → statement M
 amend-order-spec =

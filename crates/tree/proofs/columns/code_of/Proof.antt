@@ -4,7 +4,7 @@ use Rattle.tree.proofs.columns.code_of.Statement.{statement}
 use Rattle.tree.proofs.columns.code_of.Tie as tie
 
 returns : tie.Need-returns
-returns c = rw (c .before .o .given .1)
+returns c = let o : tie.After-o = search in rw (o .o .given .1)
 
 pub code-of-spec : {M : Type 1} → statement M
 code-of-spec =

@@ -24,16 +24,19 @@ loop-holds c = (search needs, search needs, search needs, (λ k l. absurd (omega
 
 loop-again : tie.Need-loop-again Inv-loop μ-loop
 loop-again c =
-    let l = c .before .before .before .before .loop in (
+    let at-loop : tie.At-loop Inv-loop μ-loop = search in
+    let l = at-loop .loop in (
       search needs,
       simp length-set (l .inv .1),
       simp length-set (l .inv .2),
-      column-more 0 _ (l .origins) (l .i) _ (omega arith) (l .inv .3) (c .before .code-of .ensures),
+      column-more 0 _ (l .origins) (l .i) _ (omega arith) (l .inv .3) (search),
       column-more 0 _ (l .creators) (l .i) _ (omega arith) (l .inv .4) refl,
     )
 
 returns : tie.Need-returns Inv-loop μ-loop
-returns c = let l = c .before .loop in ((λ k h. l .inv .3 k (omega arith)), λ k h. l .inv .4 k (omega arith))
+returns c =
+    let at-loop : tie.At-loop Inv-loop μ-loop = search in
+    let l = at-loop .loop in ((λ k h. l .inv .3 k (omega arith)), λ k h. l .inv .4 k (omega arith))
 
 pub lineage-of-spec : {M : Type 1} → statement M
 lineage-of-spec =

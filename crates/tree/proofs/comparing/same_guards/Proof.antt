@@ -5,7 +5,7 @@ use Rattle.tree.proofs.comparing.same_guards.Statement.{statement}
 use Rattle.tree.proofs.comparing.same_guards.Tie as tie
 
 returns : tie.Need-returns
-returns c = test-unless _ _ _ _ _ (c .first2 .ensures) refl refl (test-unless _ _ _ _ _ (c .before .first .ensures) refl refl nothing-more)
+returns c = test-unless _ _ _ _ _ (c .first2 .ensures) refl refl (test-unless _ _ _ _ _ (search) refl refl nothing-more)
 
 pub same-guards-spec : {M : Type 1} → statement M
 same-guards-spec = tie.close (tie.spec (λ c κs. tt) (λ c κs. tt) returns)

@@ -8,11 +8,12 @@ use Rattle.tree.proofs.revoking.revoke_guards.Tie as tie
 
 returns : tie.Need-returns
 returns c =
-    let s = c .before .before .before .before .before .args in
+    let first3 : tie.After-first3 = search in let member : tie.After-member = search in let first2 : tie.After-first2 = search in
+    let start : tie.Start = search in let s = start .args in
     test-unless _ _ _ _ _ (c .first4 .ensures) refl refl
-    (test-unless _ _ _ _ _ (c .before .first3 .ensures) (ap (λ (b : Bool). not (b && ltb (s .n) (s .count))) (c .before .before .member .ensures)) refl
-    (test-unless _ _ _ _ _ (c .before .before .before .first2 .ensures) refl refl
-    (test _ _ _ (c .before .before .before .before .first .ensures) refl refl nothing-more)))
+    (test-unless _ _ _ _ _ (first3 .first3 .ensures) (ap (λ (b : Bool). not (b && ltb (s .n) (s .count))) (member .member .ensures)) refl
+    (test-unless _ _ _ _ _ (first2 .first2 .ensures) refl refl
+    (test _ _ _ (search) refl refl nothing-more)))
 
 pub revoke-guards-spec : {M : Type 1} → statement M
 revoke-guards-spec =

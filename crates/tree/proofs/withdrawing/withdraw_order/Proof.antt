@@ -11,12 +11,11 @@ use Rattle.tree.proofs.withdrawing.withdraw_order.Tie as tie
 
 returns : tie.Need-returns
 returns c =
-    let s = c .before .before .before .before in
-    let k = c .before .before in
+    let excluding32 : tie.After-excluding32 = search in let k : tie.After-withdraw-guards = search in let s : tie.Start = search in
     ap (orderEffect (s .args .t1)) (c .ordered .ensures)
-    ∙ order-by (s .args .t1) _ (k .withdraw-guards .result) (Cut (s .args .role % 32) (c .before .excluding32 .result))
-    (λ why q. withdraw-refused (s .args .t1) (s .args .role) (s .args .permission) _ (k .withdraw-guards .ensures) q)
-    (λ q. withdraw-passed (s .args .t1) (s .args .role) (s .args .permission) _ (k .withdraw-guards .ensures) _ (c .before .excluding32 .ensures) q)
+    ∙ order-by (s .args .t1) _ (k .withdraw-guards .result) (Cut (s .args .role % 32) (excluding32 .excluding32 .result))
+    (λ why q. withdraw-refused (s .args .t1) (s .args .role) (s .args .permission) _ (search) q)
+    (λ q. withdraw-passed (s .args .t1) (s .args .role) (s .args .permission) _ (search) _ (search) q)
 
 pub withdraw-order-spec : {M : Type 1} → statement M
 withdraw-order-spec = tie.close (tie.spec (λ c. search needs) (λ c. search needs) (λ c. search needs) (λ c κs. search needs) (λ c κs. search needs) (λ c. search needs) (λ c κs. search needs) returns)
