@@ -11,25 +11,25 @@ use Rattle.fellunqa.proofs.perform.Tie as tie
 
 deliver-requires : tie.Need-deliver-requires
 deliver-requires c κs =
-    let start = c .before .before .before .before .before .before .before in
-    after-formed (length (start .args .area .now)) (start .args .r) (callOf (start .args .q)) (c .before .before .before .before .before .apply-trusted .result .answer) _ (start .pre) (c .before .before .before .before .before .apply-trusted .ensures)
+    let apply-trusted : tie.After-apply-trusted = search in let start : tie.Start = search in
+    after-formed (length (start .args .area .now)) (start .args .r) (callOf (start .args .q)) (apply-trusted .apply-trusted .result .answer) _ (search) (search)
 
 returns : tie.Need-returns
 returns c =
-    let start = c .before .before .before .before .before .before .before .before .before .before in
-    let room = length (start .args .area .now) in
-    let deliver = c .before .before .deliver in
+    let after-deliver : tie.After-deliver = search in let answer : tie.After-answer = search in
+    let apply-trusted : tie.After-apply-trusted = search in let start : tie.Start = search in let room = length (start .args .area .now) in
+    let deliver = after-deliver .deliver in
     let z = deliver .result in
-    let e = by-value room (start .args .r) (callOf (start .args .q)) _ _ (start .pre) (c .before .before .before .before .before .before .before .before .apply-trusted .ensures) _ (c .before .before .before .before .before .before .answer .given .1) in
+    let e = by-value room (start .args .r) (callOf (start .args .q)) _ _ (search) (apply-trusted .apply-trusted .ensures) _ (answer .answer .given .1) in
     let same = leaves-by (start .args .area .now) _ _ e in
     (toZ-ofZ w64 z (sfits-of {w = w64} {z = z} (deliver .ok)) ∙ deliver .ensures .0 ∙ same .0, deliver .ensures .1 ∙ same .1)
 
 returns-2 : tie.Need-returns-2
 returns-2 c =
-    let start = c .before .before .before .before .before .before in
+    let answer2 : tie.After-answer2 = search in let apply-trusted : tie.After-apply-trusted = search in let start : tie.Start = search in
     let room = length (start .args .area .now) in
     let z = c .refused .result in
-    let e = by-refusal room (start .args .r) (callOf (start .args .q)) _ _ (start .pre) (c .before .before .before .before .apply-trusted .ensures) _ (c .before .before .answer2 .given .1) in
+    let e = by-refusal room (start .args .r) (callOf (start .args .q)) _ _ (search) (apply-trusted .apply-trusted .ensures) _ (answer2 .answer2 .given .1) in
     let same = leaves-by (start .args .area .now) _ _ e in
     (toZ-ofZ w64 z (sfits-of {w = w64} {z = z} (c .refused .ok)) ∙ c .refused .ensures ∙ same .0, same .1)
 

@@ -10,20 +10,20 @@ use Rattle.fellunqa.proofs.sole_line.Statement.{statement}
 use Rattle.fellunqa.proofs.sole_line.Tie as tie
 
 returns : tie.Need-returns
-returns c = line-unended (c .before .before .before .args .line .now) _ (c .before .count-before .ensures .0) (c .if1 .taken)
+returns c = let start : tie.Start = search in line-unended (start .args .line .now) _ (search) (c .if1 .taken)
 
 returns-2 : tie.Need-returns-2
-returns-2 c = line-followed (c .before .before .before .before .args .line .now) _ (c .before .before .count-before .ensures .0) (c .if2 .taken)
+returns-2 c = let start : tie.Start = search in line-followed (start .args .line .now) _ (search) (c .if2 .taken)
 
 slice-aggregate-parse : tie.Need-slice-aggregate-parse
-slice-aggregate-parse c = sym (length-take-le _ _ (c .before .before .before .count-before .ensures .1))
+slice-aggregate-parse c = sym (length-take-le _ _ (search))
 
 returns-3 : tie.Need-returns-3
 returns-3 c =
-    let line = c .before .before .before .before .before .before .args .line .now in
-    let n = c .before .before .before .before .count-before .result in
-    let one : n + 1 ≡ length line = omega (arith, c .before .before .before .before .count-before .ensures .1, c .before .before .before .if1 .left, c .before .before .if2 .left) in
-    c .parse .ensures ∙ line-whole line n (c .before .before .before .before .count-before .ensures .0) one
+    let count-before : tie.After-count-before = search in let start : tie.Start = search in let line = start .args .line .now in
+    let n = count-before .count-before .result in
+    let one : n + 1 ≡ length line = omega arith in
+    c .parse .ensures ∙ line-whole line n (search) one
 
 pub sole-line-spec : {M : Type 1} → statement M
 sole-line-spec =

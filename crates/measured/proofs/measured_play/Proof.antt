@@ -8,17 +8,17 @@ use Rattle.measured.proofs.measured_play.Tie as tie
 
 returns : tie.Need-returns
 returns c =
-    let a = c .before .before .before .before .before .args in
-    let load = c .before .load in
+    let after-load : tie.After-load = search in let start : tie.Start = search in let a = start .args in
+    let load = after-load .load in
     not-played (a .image .now) (a .lines .now) (a .out .now) (load .result) (load .ensures) (not-true (load .result .ok) (c .if1 .taken))
 
 returns-2 : tie.Need-returns-2
 returns-2 c =
-    let a = c .before .before .before .before .before .before .before .before .before .before .args in
-    let t = c .before .before .before .before .before in
-    let load = t .before .load in
-    let journal = c .before .before .journal in
-    let same = is-played (a .image .now) (a .lines .now) (a .out .now) (load .result) (load .ensures) (not-false (load .result .ok) (t .if1 .left)) in
+    let after-journal : tie.After-journal = search in let after-load : tie.After-load = search in
+    let start : tie.Start = search in let a = start .args in
+    let load = after-load .load in
+    let journal = after-journal .journal in
+    let same = is-played (a .image .now) (a .lines .now) (a .out .now) (load .result) (load .ensures) (not-false (load .result .ok) (search)) in
     (journal .ensures .0 ∙ same .0, journal .ensures .1 ∙ same .1)
 
 pub measured-play-spec : {M : Type 1} → statement M

@@ -13,26 +13,26 @@ use Rattle.player.proofs.journal.Tie as tie
 
 returns : tie.Need-returns
 returns c =
-    let a = c .before .before .before .args in
+    let start : tie.Start = search in let a = start .args in
     let h = no-room (a .start) (a .input .now) (a .out .now) (c .if1 .taken) in
     (h .0, h .1, zero-le)
 
 returns-2 : tie.Need-returns-2
 returns-2 c =
-    let a = c .before .before .before .before .before .before .before .before .args in
-    let p = c .before .before .print .ensures in
-    let h = printed-room (refused 1) (a .out .now) (omega (arith, c .before .before .before .before .before .if1 .left)) in
-    let e = with-room (a .start) (a .input .now) (a .out .now) (c .before .before .before .before .before .if1 .left) (printed (refused 1)) (journal-long (a .start) (a .input .now) (c .before .before .before .before .if2 .taken)) in
-    (p .0 ∙ h .1 ∙ e .0, p .1 ∙ h .0 ∙ e .1, omega (arith, p .0 ∙ h .1, printed-most (refused 1), c .before .before .before .before .before .if1 .left))
+    let print : tie.After-print = search in let start : tie.Start = search in let a = start .args in
+    let p = print .print .ensures in
+    let h = printed-room (refused 1) (a .out .now) (omega arith) in
+    let e = with-room (a .start) (a .input .now) (a .out .now) (search) (printed (refused 1)) (journal-long (a .start) (a .input .now) (search)) in
+    (p .0 ∙ h .1 ∙ e .0, p .1 ∙ h .0 ∙ e .1, omega (arith, p .0 ∙ h .1, printed-most (refused 1)))
 
 play-requires : tie.Need-play-requires
-play-requires c κs = omega (arith, c .before .if2 .left, c .before .before .if1 .left)
+play-requires c κs = omega arith
 
 returns-3 : tie.Need-returns-3
 returns-3 c =
-    let a = c .before .before .before .before .before .before .before .before .args in
-    let p = c .before .before .play .ensures in
-    let e = with-room (a .start) (a .input .now) (a .out .now) (c .before .before .before .before .before .if1 .left) (transcript (a .start) (split 10 (a .input .now))) (journal-short (a .start) (a .input .now) (c .before .before .before .before .if2 .left)) in
+    let play : tie.After-play = search in let start : tie.Start = search in let a = start .args in
+    let p = play .play .ensures in
+    let e = with-room (a .start) (a .input .now) (a .out .now) (search) (transcript (a .start) (split 10 (a .input .now))) (journal-short (a .start) (a .input .now) (search)) in
     (p .0 ∙ e .0, p .1 ∙ e .1, p .2)
 
 pub journal-spec : {M : Type 1} → statement M

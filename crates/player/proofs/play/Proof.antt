@@ -65,79 +65,81 @@ abbrev Decided : Type 0
 Decided = tie.After-decide Inv-loop μ-loop
 
 abbrev formed-at : Turn → tie.After-well-formed Inv-loop μ-loop
-formed-at l = l .before .before .before
+formed-at l = search
 
 abbrev start : Turn → Start
-start l = formed-at l .before .before .before
+start l = search
 
 abbrev turn-of : Ended → Turn
-turn-of c = c .before .before .before
+turn-of c = search
 
 abbrev ended-at : Told → Ended
-ended-at s = s .before .before .before
+ended-at s = search
 
 abbrev turned : Told → Turn
-turned s = turn-of (ended-at s)
+turned s = search
 
 abbrev refused-at : tie.After-print2 Inv-loop μ-loop → tie.After-step Inv-loop μ-loop
-refused-at c = c .before .before .before
+refused-at c = search
 
 abbrev capability-held : tie.After-answer-check Inv-loop μ-loop → tie.After-capability-held Inv-loop μ-loop
-capability-held c = c .before .before .before
+capability-held c = search
 
 abbrev role-held : tie.After-answer-check Inv-loop μ-loop → tie.After-role-held Inv-loop μ-loop
-role-held c = capability-held c .before .before
+role-held c = search
 
 abbrev check-at : tie.After-answer-check Inv-loop μ-loop → tie.After-step2 Inv-loop μ-loop
-check-at c = role-held c .before .before .before
+check-at c = search
 
 abbrev tree-at : tie.After-order-of Inv-loop μ-loop → tie.After-step3 Inv-loop μ-loop
-tree-at c = c .before .before
+tree-at c = search
 
 abbrev answered-at : tie.After-print4 Inv-loop μ-loop → tie.After-order Inv-loop μ-loop
-answered-at c = c .before .before .before
+answered-at c = search
 
-abbrev swept-at : tie.After-sweep-all Inv-loop μ-loop → tie.After-order2 Inv-loop μ-loop
-swept-at c = c .before .before
+abbrev swept-at : tie.After-sweep-all Inv-loop μ-loop → Told
+swept-at c = search
+
+abbrev seen : Decided → tie.After-seen Inv-loop μ-loop
+seen d = search
 
 abbrev user : Decided → tie.After-user-at Inv-loop μ-loop
-user d = d .before .before .before .before
+user d = search
 
 abbrev parent : Decided → tie.After-parent-at Inv-loop μ-loop
-parent d = user d .before .before
+parent d = search
 
 abbrev role : Decided → tie.After-role-at Inv-loop μ-loop
-role d = parent d .before .before
+role d = search
 
 abbrev capability : Decided → tie.After-capability-at Inv-loop μ-loop
-capability d = role d .before .before
+capability d = search
 
 abbrev session : Decided → tie.After-session-at Inv-loop μ-loop
-session d = capability d .before .before
+session d = search
 
 abbrev names : Decided → tie.After-names-of Inv-loop μ-loop
-names d = session d .before
+names d = search
 
 abbrev one-at : Decided → tie.After-step4 Inv-loop μ-loop
-one-at d = names d .before .before
+one-at d = let m = names d in search
 
 -- a step of the match comes after what the line was told to be
 abbrev told-1 : tie.After-step Inv-loop μ-loop → Told
-told-1 c = c .before .before
+told-1 c = search
 
 abbrev told-2 : tie.After-step2 Inv-loop μ-loop → Told
-told-2 c = c .before .before
+told-2 c = search
 
 abbrev told-3 : tie.After-step3 Inv-loop μ-loop → Told
-told-3 c = c .before .before
+told-3 c = search
 
 abbrev told-4 : tie.After-step4 Inv-loop μ-loop → Told
-told-4 c = c .before .before
+told-4 c = search
 
 loop-holds : tie.Need-loop-holds Inv-loop μ-loop
 loop-holds c =
-    let f = c .before .before in
-    let s = f .before .before .before in (
+    let f : tie.After-well-formed Inv-loop μ-loop = search in let s : Start = search in (
       record { inside = omega arith; text = refl; size = omega arith; kept = refl; room = omega (arith, s .pre, transcript-most (s .args .start) (s .args .input .now)) },
       f .well-formed .ensures,
       c .authorities-of .ensures,
@@ -162,21 +164,21 @@ within : (l : Turn) → l .loop .to ≤ length (l .loop .out)
 within l = to-within _ _ _ _ (l .loop .out) _ (l .loop .to) (l .loop .inv .0)
 
 add-end : tie.Need-add-end Inv-loop μ-loop
-add-end c = omega (arith, whole c, c .before .before .loop-test .taken)
+add-end c = omega (arith, whole c)
 
 -- ---- a last line without its line feed
 
 module _ (c : tie.After-print Inv-loop μ-loop) where
   abbrev last-line : Ended
-  last-line = c .before .before .before
+  last-line = search
 
   abbrev last : Turn
-  last = turn-of last-line
+  last = search
 
   unended : transcript (last .loop .r) (split 10 (drop (last .loop .at) (Input last))) ≡ printed (refused 1)
   unended =
-      transcript-last (last .loop .r) (Input last) (last .loop .at) _ (ended last-line) (c .before .before .if1 .taken)
-      ∙ unended-some (Input last) (last .loop .at) (last-line .before .before .loop-test .taken)
+      transcript-last (last .loop .r) (Input last) (last .loop .at) _ (ended last-line) (search)
+      ∙ unended-some (Input last) (last .loop .at) (search)
 
   -- what is left is its refusal, and there is room for that
   unended-room : last .loop .to + length (printed (refused 1)) ≤ length (last .loop .out)
@@ -184,17 +186,15 @@ module _ (c : tie.After-print Inv-loop μ-loop) where
 
 add-result : tie.Need-add-result Inv-loop μ-loop
 add-result c =
-    let p = c .before .before in
-    let l = last p .loop in
+    let p : tie.After-print Inv-loop μ-loop = search in let l = last p .loop in
     omega (arith, unended-room p, answer-size (l .to) (refused 1) (l .out) (unended-room p) (p .print .ensures .0), below (last-line p))
 
 same-length : tie.Need-same-length Inv-loop μ-loop
-same-length c = c .before .out .given .1 ∙ last (c .before .before) .loop .inv .0 .kept
+same-length c = let o : tie.After-out Inv-loop μ-loop = search in let l : Turn = search in o .out .given .1 ∙ l .loop .inv .0 .kept
 
 returns : tie.Need-returns Inv-loop μ-loop
 returns c =
-    let p = c .before .before in
-    let l = last p .loop in
+    let p : tie.After-print Inv-loop μ-loop = search in let l = last p .loop in
     let e = unended p in
     let room = unended-room p in
     let count = answer-size (l .to) (refused 1) (l .out) room (p .print .ensures .0) in (
@@ -206,10 +206,10 @@ returns c =
 -- ---- a line that has its line feed
 
 part-step-of-end : tie.Need-part-step-of-end Inv-loop μ-loop
-part-step-of-end c = omega (arith, whole (c .before))
+part-step-of-end c = omega (arith, whole (search))
 
 short : (s : Told) → turned s .loop .at + ended-at s .count-before .result < length (Input (turned s))
-short s = omega (arith, whole (ended-at s), s .before .before .if1 .left, ended-at s .before .before .loop-test .taken)
+short s = omega (arith, whole (search))
 
 keeps : (s : Told) → formed-at (turned s) .well-formed .result ≡ true → T (wellFormed (turned s .loop .r))
 keeps s e = true→T _ (sym (turned s .loop .inv .1) ∙ e)
@@ -253,20 +253,17 @@ refuses c = let s = told-1 c in subst (Fits _ _) (c .step .given .1) (s .step-of
 
 add-to : tie.Need-add-to Inv-loop μ-loop
 add-to c =
-    let p = c .before .before in
-    let at = refused-at p in
-    omega (arith, played (told-1 at) _ _ _ _ (refuses at) (p .print2 .ensures) .0)
+    let p : tie.After-print2 Inv-loop μ-loop = search in
+    omega (arith, played (search) _ _ _ _ (refuses (search)) (p .print2 .ensures) .0)
 
 loop-less : tie.Need-loop-less Inv-loop μ-loop
-loop-less c = omega (arith, short (told-1 (refused-at (c .before .before))))
+loop-less c = omega (arith, short (search))
 
 loop-again : tie.Need-loop-again Inv-loop μ-loop
 loop-again c =
-    let p = c .before .before in
-    let at = refused-at p in
-    let l = turned (told-1 at) .loop in
-    let w = played (told-1 at) _ _ _ _ (refuses at) (p .print2 .ensures) .1 (c .before .out2 .given .1) in
-    (w .0, w .1, l .inv .2, l .inv .3)
+    let p : tie.After-print2 Inv-loop μ-loop = search in
+    let w = played (search) _ _ _ _ (refuses (search)) (p .print2 .ensures) .1 (search) in
+    (w .0, w .1, search, search)
 
 -- ---- a check
 
@@ -283,26 +280,25 @@ checks c =
 
 add-to-2 : tie.Need-add-to-2 Inv-loop μ-loop
 add-to-2 c =
-    let p = c .before .before in
-    let a = p .before .before in
-    omega (arith, played (told-2 (check-at a)) _ _ _ _ (checks a) (p .print3 .ensures) .0)
+    let p : tie.After-print3 Inv-loop μ-loop = search in
+    omega (arith, played (search) _ _ _ _ (checks (search)) (p .print3 .ensures) .0)
 
 loop-less-2 : tie.Need-loop-less-2 Inv-loop μ-loop
-loop-less-2 c = omega (arith, short (told-2 (check-at (c .before .before .before .before))))
+loop-less-2 c = omega (arith, short (search))
 
 loop-again-2 : tie.Need-loop-again-2 Inv-loop μ-loop
 loop-again-2 c =
-    let p = c .before .before in
-    let a = p .before .before in
-    let s = told-2 (check-at a) in
-    let l = turned s .loop in
-    let w = played s _ _ _ _ (checks a) (p .print3 .ensures) .1 (c .before .out3 .given .1) in
+    let p : tie.After-print3 Inv-loop μ-loop = search in
+    let w = played (search) _ _ _ _ (checks (search)) (p .print3 .ensures) .1 (search) in
+    let l = turned (search) .loop in
     (w .0, w .1, l .inv .2, l .inv .3)
 
 -- ---- a call over the whole tree
 
 order-of-requires : tie.Need-order-of-requires Inv-loop μ-loop
-order-of-requires c κs = let at = c .before in keeps (told-3 at) (subst (Fits _ _) (at .step3 .given .1) (told-3 at .step-of .ensures) .0)
+order-of-requires c κs =
+    let at : tie.After-step3 Inv-loop μ-loop = search in let s : Told = search in
+    keeps s (subst (Fits _ _) (at .step3 .given .1) (s .step-of .ensures) .0)
 
 orders : (c : tie.After-order-of Inv-loop μ-loop) → let s = told-3 (tree-at c) in
     orderEffect (turned s .loop .r) (c .order-of .result) ≡ lineEffect (turned s .loop .r) (Line s)
@@ -312,61 +308,54 @@ orders c =
     let fit = subst (Fits _ _) (at .step3 .given .1) (s .step-of .ensures) in
     line-done (turned s .loop .r) _ _ _ (fit .1) (keeps s (fit .0)) (c .order-of .ensures)
 
+abbrev told : tie.After-order Inv-loop μ-loop → Told
+told c = search
+
 -- answered with the register as it is
-answers : (c : tie.After-order Inv-loop μ-loop) → let s = told-3 (tree-at (c .before .before)) in
+answers : (c : tie.After-order Inv-loop μ-loop) → let s = told c in
     record { answer = outcomeOf (c .order .given .0 .0); after = turned s .loop .r } ≡ lineEffect (turned s .loop .r) (Line s)
 answers c =
-    let o = c .before .before in
-    ap (orderEffect (turned (told-3 (tree-at o)) .loop .r)) (sym (c .order .given .1)) ∙ orders o
+    ap (orderEffect (turned (told c) .loop .r)) (sym (c .order .given .1)) ∙ orders (search)
 
 add-to-3 : tie.Need-add-to-3 Inv-loop μ-loop
 add-to-3 c =
-    let p = c .before .before in
-    let at = answered-at p in
-    omega (arith, played (told-3 (tree-at (at .before .before))) _ _ _ _ (answers at) (p .print4 .ensures) .0)
+    let p : tie.After-print4 Inv-loop μ-loop = search in
+    omega (arith, played (search) _ _ _ _ (answers (search)) (p .print4 .ensures) .0)
 
 loop-less-3 : tie.Need-loop-less-3 Inv-loop μ-loop
-loop-less-3 c = omega (arith, short (told-3 (tree-at (answered-at (c .before .before) .before .before))))
+loop-less-3 c = omega (arith, short (search))
 
 loop-again-3 : tie.Need-loop-again-3 Inv-loop μ-loop
 loop-again-3 c =
-    let p = c .before .before in
-    let at = answered-at p in
-    let s = told-3 (tree-at (at .before .before)) in
-    let l = turned s .loop in
-    let w = played s _ _ _ _ (answers at) (p .print4 .ensures) .1 (c .before .out4 .given .1) in
+    let p : tie.After-print4 Inv-loop μ-loop = search in
+    let w = played (search) _ _ _ _ (answers (search)) (p .print4 .ensures) .1 (search) in
+    let l = turned (search) .loop in
     (w .0, w .1, l .inv .2, l .inv .3)
 
 -- the register swept
 sweep-all-requires : tie.Need-sweep-all-requires Inv-loop μ-loop
 sweep-all-requires c κs =
-    let at = tree-at (c .before .before .before) in
-    let s = told-3 at in
+    let at : tie.After-step3 Inv-loop μ-loop = search in let s : Told = search in
     kept→ (turned s .loop .r) (keeps s (subst (Fits _ _) (at .step3 .given .1) (s .step-of .ensures) .0)) .roles .amount
 
-sweeps : (c : tie.After-sweep-all Inv-loop μ-loop) → let s = told-3 (tree-at (swept-at c .before .before)) in
+sweeps : (c : tie.After-sweep-all Inv-loop μ-loop) → let s = swept-at c in
     record { answer = outcomeOf (c .sweep-all .result .answer); after = c .sweep-all .result .register } ≡ lineEffect (turned s .loop .r) (Line s)
 sweeps c =
-    let o = swept-at c .before .before in
-    c .sweep-all .ensures ∙ ap (orderEffect (turned (told-3 (tree-at o)) .loop .r)) (sym (swept-at c .order2 .given .1)) ∙ orders o
+    let o : tie.After-order2 Inv-loop μ-loop = search in
+    c .sweep-all .ensures ∙ ap (orderEffect (turned (swept-at c) .loop .r)) (sym (o .order2 .given .1)) ∙ orders (search)
 
 add-to-4 : tie.Need-add-to-4 Inv-loop μ-loop
 add-to-4 c =
-    let p = c .before .before in
-    let w = p .before .before in
-    omega (arith, played (told-3 (tree-at (swept-at w .before .before))) _ _ _ _ (sweeps w) (p .print5 .ensures) .0)
+    let p : tie.After-print5 Inv-loop μ-loop = search in
+    omega (arith, played (search) _ _ _ _ (sweeps (search)) (p .print5 .ensures) .0)
 
 loop-less-4 : tie.Need-loop-less-4 Inv-loop μ-loop
-loop-less-4 c =
-    let p = c .before .before .before .before .before in
-    omega (arith, short (told-3 (tree-at (swept-at (p .before .before) .before .before))))
+loop-less-4 c = omega (arith, short (search))
 
 loop-again-4 : tie.Need-loop-again-4 Inv-loop μ-loop
 loop-again-4 c =
-    let out = c .before .before .before .before in
-    let p = out .before in
-    let z = p .before .before in
-    let w = played (told-3 (tree-at (swept-at z .before .before))) _ _ _ _ (sweeps z) (p .print5 .ensures) .1 (out .out5 .given .1) in
+    let p : tie.After-print5 Inv-loop μ-loop = search in
+    let w = played (search) _ _ _ _ (sweeps (search)) (p .print5 .ensures) .1 (search) in
     (w .0, w .1, c .authorities-of2 .ensures, search needs)
 
 -- ---- a call that changes only elements that it names
@@ -395,7 +384,7 @@ module _ (d : Decided) where
         role = role d .role-at .ensures .0;
         parent = parent d .parent-at .ensures .0;
       })
-      (d .before .before .seen .ensures) (d .decide .ensures))
+      (seen d .seen .ensures) (d .decide .ensures))
 
   -- each place is within the register
   role-in : role d .role-at .result < 32
@@ -413,65 +402,64 @@ module _ (d : Decided) where
 add-to-5 : tie.Need-add-to-5 Inv-loop μ-loop
 unfolding put
 add-to-5 c =
-    let p = c .before .before in
-    let d = p .before .before in
+    let p : tie.After-print6 Inv-loop μ-loop = search in let d : Decided = search in
     omega (arith, played (told-one d) _ _ _ _ (ones d) (p .print6 .ensures) .0)
 
 -- what was decided, from the last element that is put back
-abbrev decided : tie.After-x6 Inv-loop μ-loop → tie.After-print6 Inv-loop μ-loop
-decided c = c .before .before .before .before .before .before .before
+abbrev decided : tie.After-x6 Inv-loop μ-loop → Decided
+decided c = search
+
+abbrev answered : tie.After-x6 Inv-loop μ-loop → tie.After-print6 Inv-loop μ-loop
+answered c = search
 
 -- the invariant after the elements are put back
 put-on : (c : tie.After-x6 Inv-loop μ-loop) →
-    let p = decided c in
-    let d = p .before .before in
+    let p = answered c in
+    let d = decided c in
     let s = told-one d in
     let l = turned s .loop in
     let a = start (turned s) .args in
     Playing (a .start) (a .input .now) (a .out .now) (put (l .r) (Where d) (d .decide .result .slots)) (Printed s (p .print6 .last .0)) (l .at + ended-at s .count-before .result + 1) (l .to + p .print6 .result)
     × (formed-at (turned s) .well-formed .result ≡ wellFormed (put (l .r) (Where d) (d .decide .result .slots)))
 put-on c =
-    let p = decided c in
-    let d = p .before .before in
-    played (told-one d) _ _ _ _ (ones d) (p .print6 .ensures) .1 (c .before .before .before .before .before .before .out6 .given .1)
+    played (told-one (decided c)) _ _ _ _ (ones (decided c)) (answered c .print6 .ensures) .1 (search)
 
 loop-less-5 : tie.Need-loop-less-5 Inv-loop μ-loop
-loop-less-5 c = omega (arith, short (told-one (decided (c .before .before .before .before) .before .before)))
+loop-less-5 c = omega (arith, short (told-one (search)))
 
 loop-again-5 : tie.Need-loop-again-5 Inv-loop μ-loop
 unfolding put
 loop-again-5 c =
-    let w = put-on (c .before .before .before .before) in
+    let w = put-on (search) in
     (w .0, w .1, c .authorities-of3 .ensures, search needs)
 
 loop-less-6 : tie.Need-loop-less-6 Inv-loop μ-loop
-loop-less-6 c = omega (arith, short (told-one (decided (c .before .before) .before .before)))
+loop-less-6 c = omega (arith, short (told-one (search)))
 
 -- no role has changed, and the column stays
 loop-again-6 : tie.Need-loop-again-6 Inv-loop μ-loop
 unfolding put
 loop-again-6 c =
-    let x = c .before .before in
-    let w = put-on x in
-    let d = decided x .before .before in
+    let changed : tie.After-changes-role Inv-loop μ-loop = search in let d : Decided = search in
+    let w = put-on (search) in
     let l = now-one d .loop in
     let q = one-at d .step4 .given .0 .0 in
-    let same = ap (λ (m : Names). changesRole (m .follow)) (sym (names d .names-of .ensures)) ∙ sym (c .before .changes-role .ensures) ∙ c .if2 .left in
-    let e = d .decide .ensures ∙ ap (λ (v : Slots). decideOf v (l .authorities) q) (d .before .before .seen .ensures) in
+    let same = ap (λ (m : Names). changesRole (m .follow)) (sym (names d .names-of .ensures)) ∙ sym (changed .changes-role .ensures) ∙ c .if2 .left in
+    let e = d .decide .ensures ∙ ap (λ (v : Slots). decideOf v (l .authorities) q) (seen d .seen .ensures) in
     (w .0, w .1, column-kept (l .r) (Where d) (l .authorities) q (d .decide .result) (l .inv .2) e same, l .inv .3)
 
 -- ---- the end
 
 same-length-2 : tie.Need-same-length-2 Inv-loop μ-loop
-same-length-2 c = c .before .loop .inv .0 .kept
+same-length-2 c = let l : Turn = search in l .loop .inv .0 .kept
 
 returns-2 : tie.Need-returns-2 Inv-loop μ-loop
 returns-2 c =
-    let l = c .before .loop in
-    let e = transcript-done (l .r) (Input (c .before)) (l .at) (c .loop-test .left) in (
+    let t : Turn = search in let l = t .loop in
+    let e = transcript-done (l .r) (Input t) (l .at) (c .loop-test .left) in (
       omega (arith, ap length e, l .inv .0 .size),
       sym (placed-nil (l .to) (l .out)) ∙ (rw e at (l .inv .0 .text)),
-      omega (arith, within (c .before), l .inv .0 .kept),
+      omega (arith, within (search), l .inv .0 .kept),
     )
 
 pub play-spec : {M : Type 1} → statement M
@@ -484,8 +472,7 @@ play-spec =
     loop-holds
     (λ c. search needs) (λ c. search needs) (λ c. search needs) (λ c κs. search needs)
     add-end
-    (λ c. within (turn-of (c .before)))
-    (λ c. within (turn-of (c .before)))
+    (λ c. within (search)) (λ c. within (search))
     (λ c. search needs) (λ c κs. search needs)
     add-result
     same-length
@@ -495,8 +482,7 @@ play-spec =
     (λ c κs. search needs)
     add-at
     (λ c. search needs)
-    (λ c. within (turned (told-1 (c .before))))
-    (λ c. within (turned (told-1 (c .before))))
+    (λ c. within (search)) (λ c. within (search))
     (λ c. search needs) (λ c κs. search needs)
     add-to
     loop-less
@@ -504,8 +490,7 @@ play-spec =
     (λ c. search needs) (λ c. search needs) (λ c. search needs) (λ c. search needs) (λ c κs. search needs) (λ c. search needs)
     (λ c. search needs) (λ c. search needs) (λ c κs. search needs) (λ c. search needs) (λ c. search needs) (λ c. search needs)
     (λ c κs. search needs)
-    (λ c. within (turned (told-2 (check-at c))))
-    (λ c. within (turned (told-2 (check-at c))))
+    (λ c. within (search)) (λ c. within (search))
     (λ c. search needs) (λ c κs. search needs)
     add-to-2
     loop-less-2
@@ -513,16 +498,14 @@ play-spec =
     (λ c. search needs)
     order-of-requires
     (λ c. search needs)
-    (λ c. within (turned (told-3 (tree-at (c .before .before .before)))))
-    (λ c. within (turned (told-3 (tree-at (c .before .before .before)))))
+    (λ c. within (search)) (λ c. within (search))
     (λ c. search needs) (λ c κs. search needs)
     add-to-3
     loop-less-3
     loop-again-3
     (λ c. search needs)
     sweep-all-requires
-    (λ c. within (turned (told-3 (tree-at (swept-at c .before .before)))))
-    (λ c. within (turned (told-3 (tree-at (swept-at c .before .before)))))
+    (λ c. within (search)) (λ c. within (search))
     (λ c. search needs) (λ c κs. search needs)
     add-to-4
     (λ c κs. search needs)
@@ -531,16 +514,15 @@ play-spec =
     (λ c. search needs) (λ c κs. search needs) (λ c κs. search needs) (λ c. search needs) (λ c. search needs) (λ c κs. search needs)
     (λ c. search needs) (λ c. search needs) (λ c κs. search needs) (λ c. search needs) (λ c. search needs) (λ c κs. search needs)
     (λ c. search needs) (λ c. search needs) (λ c κs. search needs) (λ c. search needs) (λ c κs. search needs) (λ c κs. search needs)
-    (λ c. within (now-one c))
-    (λ c. within (now-one c))
+    (λ c. within (now-one c)) (λ c. within (now-one c))
     (λ c. search needs) (λ c κs. search needs)
     add-to-5
     (λ c. search needs)
-    (λ c. omega (arith, role-in (c .before .before .before .before .before .before))) (λ c. omega (arith, role-in (c .before .before .before .before .before .before)))
-    (λ c. omega (arith, parent-in (c .before .before .before .before .before .before .before))) (λ c. omega (arith, parent-in (c .before .before .before .before .before .before .before)))
-    (λ c. omega (arith, capability-in (c .before .before .before .before .before .before .before .before)))
-    (λ c. omega (arith, capability-in (c .before .before .before .before .before .before .before .before)))
-    (λ c. omega (arith, session-in (decided c .before .before))) (λ c. omega (arith, session-in (decided c .before .before)))
+    (λ c. omega (arith, role-in (search))) (λ c. omega (arith, role-in (search)))
+    (λ c. omega (arith, parent-in (search))) (λ c. omega (arith, parent-in (search)))
+    (λ c. omega (arith, capability-in (search)))
+    (λ c. omega (arith, capability-in (search)))
+    (λ c. omega (arith, session-in (search))) (λ c. omega (arith, session-in (search)))
     (λ c κs. search needs) (λ c κs. search needs)
     loop-less-5
     loop-again-5

@@ -9,42 +9,31 @@ use Rattle.player.proofs.step.step_of.Statement.{statement}
 use Rattle.player.proofs.step.step_of.Tie as tie
 
 returns : tie.Need-returns
-returns c = let p = c .before .before in λ r h. line-none r (p .before .before .args .line .now) _ (p .parse .ensures) (c .enum-told .given .1)
+returns c = let start : tie.Start = search in λ r h. line-none r (start .args .line .now) _ (search) (c .enum-told .given .1)
 
 returns-2 : tie.Need-returns-2
 returns-2 c =
-    let q = c .before .before in
-    let p = q .before .before in
-    let a = p .before .before .args in
+    let q : tie.After-parsed = search in let p : tie.After-parse = search in let start : tie.Start = search in let a = start .args in
     λ r h. line-broken r (a .line .now) _ (p .parse .ensures) _ (q .parsed .given .1) (h ∙ not-true (a .formed) (c .if1 .taken))
 
 -- the line says a request q, and the register is known to keep the rules
 returns-3 : tie.Need-returns-3
 returns-3 c =
-    let o = c .before .before .before .before in
-    let t = o .before .before in
-    let q = t .before .before in
-    let p = q .before .before in
-    let a = p .before .before .args in
-    (not-false (a .formed) (t .if1 .left), line-says (a .line .now) _ (p .parse .ensures) _ (q .parsed .given .1) ∙ ap (λ x. some (callOf x)) (o .q .given .1) ∙ ap (λ x. some (localCall x)) (c .before .one .given .1))
+    let one : tie.After-one = search in let o : tie.After-q = search in let q : tie.After-parsed = search in let p : tie.After-parse = search in
+    let start : tie.Start = search in let a = start .args in
+    (not-false (a .formed) (search), line-says (a .line .now) _ (p .parse .ensures) _ (q .parsed .given .1) ∙ ap (λ x. some (callOf x)) (o .q .given .1) ∙ ap (λ x. some (localCall x)) (one .one .given .1))
 
 returns-4 : tie.Need-returns-4
 returns-4 c =
-    let o = c .before .before in
-    let t = o .before .before in
-    let q = t .before .before in
-    let p = q .before .before in
-    let a = p .before .before .args in
-    (not-false (a .formed) (t .if1 .left), line-says (a .line .now) _ (p .parse .ensures) _ (q .parsed .given .1) ∙ ap (λ x. some (callOf x)) (o .q .given .1))
+    let o : tie.After-q = search in let q : tie.After-parsed = search in let p : tie.After-parse = search in
+    let start : tie.Start = search in let a = start .args in
+    (not-false (a .formed) (search), line-says (a .line .now) _ (p .parse .ensures) _ (q .parsed .given .1) ∙ ap (λ x. some (callOf x)) (o .q .given .1))
 
 returns-5 : tie.Need-returns-5
 returns-5 c =
-    let o = c .before in
-    let t = o .before .before in
-    let q = t .before .before in
-    let p = q .before .before in
-    let a = p .before .before .args in
-    (not-false (a .formed) (t .if1 .left), line-says (a .line .now) _ (p .parse .ensures) _ (q .parsed .given .1) ∙ ap (λ x. some (callOf x)) (o .q2 .given .1))
+    let o : tie.After-q2 = search in let q : tie.After-parsed = search in let p : tie.After-parse = search in
+    let start : tie.Start = search in let a = start .args in
+    (not-false (a .formed) (search), line-says (a .line .now) _ (p .parse .ensures) _ (q .parsed .given .1) ∙ ap (λ x. some (callOf x)) (o .q2 .given .1))
 
 pub step-of-spec : {M : Type 1} → statement M
 step-of-spec =
