@@ -14,25 +14,13 @@ use Rattle.creation.proofs.create_guards.Tie as tie
 
 returns : tie.Need-returns
 returns c =
-    let missing = c .before in
-    let forbidden = missing .before in
-    let revoked = forbidden .before in
-    let expired = revoked .before in
-    let context = expired .before in
-    let exhausted = context .before in
-    let exceeds = exhausted .before in
-    let full = exceeds .before in
-    let fits = full .before .before in
-    let new = fits .before in
-    let admitted = new .before in
-    let ranged = admitted .before in
-    let grants = ranged .before in
-    let creates = grants .before .before in
-    let alive = creates .before in
-    let entitled = alive .before in
-    let present = entitled .before in
-    let maker = present .before in
-    let a = maker .before .before .before .args in
+    let fits : tie.After-is-below = search in let new : tie.After-made = search in let missing : tie.After-first8 = search in
+    let forbidden : tie.After-first7 = search in let revoked : tie.After-first6 = search in let expired : tie.After-first5 = search in
+    let context : tie.After-first4 = search in let exhausted : tie.After-first3 = search in let exceeds : tie.After-first2 = search in
+    let full : tie.After-first = search in let admitted : tie.After-admits = search in let ranged : tie.After-in-ranges = search in
+    let grants : tie.After-member2 = search in let creates : tie.After-creates-in = search in let alive : tie.After-alive-in = search in
+    let entitled : tie.After-member-in = search in let present : tie.After-present-in = search in let maker : tie.After-member = search in
+    let start : tie.Start = search in let a = start .args in
     let v = a .v in
     let ts = createRanges (a .user) (namedOrigin (a .origin)) (a .at) (a .plan) in
     test-ranged 2 ts _ _ (c .first9 .ensures) (ap not (ranged .in-ranges .ensures)) refl
