@@ -5,7 +5,6 @@ use mathlib.Core.List.{List, [], _∷_}
 use Prim.Native.Nat.{ℕ, _%_}
 use lib.ListN.{getD}
 use Rattle.masks.proofs.Truth.{each-at}
-use Rattle.model.specs.declared.Role.{Role}
 use Rattle.model.specs.declared.Register.{Register}
 use Rattle.model.specs.Rules.{isUser, isDomain, isRole, isPermission, bits}
 use Rattle.model.specs.Setters.{withClock}

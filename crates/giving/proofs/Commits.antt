@@ -1,17 +1,15 @@
 -- hand, allow and lend over the elements that they name, put back, are the calls of the model.
-use mathlib.Core.Path.{_≡_, refl, sym, ap, ap₂, _∙_, subst}
+use mathlib.Core.Path.{_≡_, refl, sym, ap₂, _∙_, subst}
 use mathlib.Core.Logic.{_⊎_, inl, inr}
 use mathlib.Core.Bool.{Bool, not}
 use mathlib.Core.List.{List, [], _∷_}
 use Prim.Native.Nat.{ℕ, _%_, _<_}
-use lib.Bits.{bitOr}
 use lib.Dec.{T, ltb, ltb→lt, nltb→le, lit<}
 use lib.ListN.{drop}
-use Rattle.masks.specs.Tests.{each}
 use Rattle.masks.proofs.Truth.{each-at, decided}
 use Rattle.model.specs.declared.Capability.{Capability}
 use Rattle.model.specs.declared.Register.{Register}
-use Rattle.model.specs.State.{Terms, capabilityAt, originAt, authority}
+use Rattle.model.specs.State.{Terms, originAt, authority}
 use Rattle.model.specs.Rules.{isUser, isCapability, bits, wellFormed}
 use Rattle.model.specs.Invariant.{OriginInRange}
 use Rattle.model.specs.Rulings.{Ruling, into, ruled, _unless_, capability, termsOf}

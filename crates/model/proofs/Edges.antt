@@ -4,7 +4,6 @@ use mathlib.Core.Path.{_≡_, refl, ap, ap₂, _∙_}
 use mathlib.Core.List.{List, [], _∷_, _++_}
 use Prim.Native.Nat.{ℕ}
 use lib.Count.{ones, onesIn}
-use lib.Dec.{T}
 use lib.ListN.{drop}
 use Rattle.masks.specs.Masks.{has, within, including, excluding, joined}
 use Rattle.masks.specs.Tests.{allBelow, countBelow, allFrom, mapFrom, rising}
@@ -21,7 +20,7 @@ use Rattle.model.specs.Comparison.{domainOf, alike, sameRuling}
 use Rattle.model.specs.Calls.{Call, ruling, settled, step}
 use Rattle.model.specs.Fields.{roleCodings, roleFields, writeRole, roleOf, readRole, sessionCodings, sessionFields, writeSession, sessionOf, readSession, headCodings, capabilityCodings, capabilityFields, headFields, writeCapability, capabilityOf, readHead, readCapability, capabilityLength}
 use Rattle.model.specs.Image.{foundedRoles, activeSessions, encode, decode, loads, loadEffect}
-use Rattle.model.specs.Lists.{Event, perform, answers, calls}
+use Rattle.model.specs.Lists.{perform, answers, calls}
 use Rattle.model.specs.Theorem.{FreshStart}
 use Rattle.model.specs.Edges.{Answered, Edges}
 use Rattle.model.proofs.Settling.{step-settled}

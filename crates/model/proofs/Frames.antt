@@ -17,7 +17,7 @@ use Rattle.model.specs.declared.Capability.{Capability}
 use Rattle.model.specs.declared.Context.{Context}
 use Rattle.model.specs.declared.Session.{Session}
 use Rattle.masks.specs.Masks.{has, within}
-use Rattle.model.specs.State.{capabilityTerms, Terms, terms, claims, authority, roleAt, capabilityAt, sessionAt, originAt, blankCapability, exists, admitted, admittedTests}
+use Rattle.model.specs.State.{capabilityTerms, Terms, terms, claims, roleAt, capabilityAt, originAt, blankCapability, exists, admitted, admittedTests}
 use Rattle.model.specs.Lineage.{children, isParent}
 use Rattle.model.specs.Rules.{earlier}
 use Rattle.masks.proofs.Truth.{Each, each→, each←}

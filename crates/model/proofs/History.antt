@@ -13,7 +13,7 @@ use Rattle.model.specs.declared.Origin.{Origin}
 use Rattle.model.specs.declared.Register.{Register}
 use Rattle.model.specs.State.{originAt}
 use Rattle.model.specs.Rules.{wellFormed}
-use Rattle.model.specs.Rulings.{Outcome, value, refused, Effect, Guard, _unless_, _when_, settle}
+use Rattle.model.specs.Rulings.{value, refused, Effect, Guard, _unless_, _when_}
 use Rattle.model.specs.Administration.{enrolRuling, foundRuling, grantRuling, withdrawRuling, appointRuling, dismissRuling, clockRuling}
 use Rattle.model.specs.Delegation.{createRuling, allowRuling, lendRuling, handRuling}
 use Rattle.model.specs.Sessions.{openRuling, checkRuling, closeRuling}

@@ -1,5 +1,4 @@
 -- The third demand, proved: `Theorem.antt` has the statement.
-use lib.Dec.{T}
 use Prim.Native.Nat.{ℕ}
 use Rattle.model.specs.declared.Origin.{Origin}
 use Rattle.model.specs.declared.Register.{Register}

@@ -17,7 +17,7 @@ use Rattle.model.specs.declared.Register.{Register}
 use Rattle.model.specs.State.{theCapability, capabilityTerms, terms, authority, sessionAt, inLife, exists}
 use Rattle.model.specs.Lineage.{Descends, here, inLineage}
 use Rattle.model.specs.Setters.{withRevoked, withCapabilities}
-use Rattle.model.specs.Rulings.{Outcome, value, refused, Effect, Guard, capability, termsOf}
+use Rattle.model.specs.Rulings.{value, refused, Effect, Guard, capability}
 use Rattle.model.specs.Sessions.{permitting, permits, checkRuling}
 use Rattle.model.specs.Revocation.{marked, revokeRuling}
 use Rattle.model.specs.Calls.{check, revoke, ruling, step}

@@ -1,12 +1,10 @@
 -- The creation tree: terms lie within terms along the lineage; the lineage ends at a founded role; who is on a lineage.
 use mathlib.Core.Path.{_≡_, refl, sym, ap, _∙_, subst}
 use mathlib.Core.Logic.{_⊎_, inl, inr}
-use mathlib.Core.Bool.{Bool, true, false, cond}
 use mathlib.Core.List.{List}
 use Prim.Native.Nat.{ℕ, zero, suc, _^_, _≤_, _<_}
-use native.Mathlib.Nat.{le-refl, le-trans, not-suc-le-zero, le-of-suc-le-suc, eq-or-lt-of-le}
+use native.Mathlib.Nat.{le-refl, le-trans, not-suc-le-zero}
 use native.Mathlib.Omega.{arith}
-use lib.Bits.{bitOr}
 use lib.Dec.{T, eqb, ltb→lt, eqb→eq, eqb-refl}
 use Rattle.model.specs.declared.Origin.{Origin}
 use Rattle.model.specs.declared.Origin.the-variants.{Role as ofRole, Capability as ofCapability}
@@ -17,7 +15,7 @@ use Rattle.model.specs.State.{party, there, capabilityTerms, Terms, term
 use Rattle.model.specs.Lineage.{lineage, onward, root, ending, member, inLineage, Descends, here, up, Reaches, last-step, one-step}
 use Rattle.model.specs.Rules.{earlier}
 use Rattle.masks.proofs.Truth.{or-l, or-r, or-cases, T→true}
-use Rattle.masks.proofs.MaskLaws.{within-has, within-refl, within-trans, within-zero, within-or, within-or-l, within-or-r, has-single}
+use Rattle.masks.proofs.MaskLaws.{within-has, within-refl, within-trans, within-or, within-or-r, has-single}
 use Rattle.masks.proofs.JoinLaws.{joined-least, joined-mono}
 use Rattle.model.specs.Invariant.{Below}
 use Rattle.model.proofs.Kept.{CapabilitiesKept}

@@ -19,7 +19,7 @@ use Rattle.model.specs.declared.Parsed.{Parsed}
 use Rattle.model.specs.declared.Parsed.the-variants.{Line, NoRequest}
 use Rattle.model.specs.Rules.{wellFormed}
 use Rattle.model.specs.Rulings.{Outcome, refused, Effect}
-use Rattle.model.specs.Calls.{Call, check, settled, step}
+use Rattle.model.specs.Calls.{Call, settled, step}
 use Rattle.model.specs.Requests.{callOf, parsedCall}
 use Rattle.model.specs.Lines.{parse, printed}
 use Rattle.model.specs.Journal.{requested, lineEffect, unended, transcript, journal}

@@ -1,5 +1,5 @@
 -- What a journal prints for its input from `at` on, n being where the next line feed is (`count_before(.., 10)`).
-use mathlib.Core.Path.{_≡_, refl, ap, _∙_}
+use mathlib.Core.Path.{_≡_, ap, _∙_}
 use mathlib.Core.List.{List, [], _∷_, _++_}
 use Prim.Native.Nat.{ℕ, _+_, _-_, _<_, _≤_}
 use lib.ListN.{length, take, drop, drop-of-length-le}

@@ -19,7 +19,7 @@ use Rattle.model.specs.declared.LocalRequest.the-variants.{Open}
 use Rattle.model.specs.State.{Party, Terms, contextOf, roleAt, capabilityAt, sessionAt, terms, admitted, inContext}
 use Rattle.model.specs.Rules.{isSession, isUser, isPermission, isOrigin, wellFormed}
 use Rattle.model.specs.Invariant.{OriginInRange}
-use Rattle.model.specs.Setters.{withCapabilities, withSessions}
+use Rattle.model.specs.Setters.{withCapabilities}
 use Rattle.model.specs.Rulings.{Outcome, partyOf, termsOf}
 use Rattle.model.specs.Sessions.{session, puttingSession, used, newSession, permitting, permits, openingSession, checking, closing, openRuling, checkRuling, closeRuling}
 use Rattle.model.specs.Calls.{check, close, ruling, settled}

@@ -15,12 +15,12 @@ use Rattle.masks.proofs.Rising.{rising-later, rising-done}
 use Rattle.model.specs.declared.Capability.{Capability}
 use Rattle.model.specs.declared.Refusal.{Refusal}
 use Rattle.model.specs.declared.Register.{Register}
-use Rattle.model.specs.State.{blankCapability, capabilityAt, exists}
+use Rattle.model.specs.State.{blankCapability, capabilityAt}
 use Rattle.model.specs.Setters.{withCapabilities}
 use Rattle.model.specs.Sweeps.{markOne}
-use Rattle.model.specs.Lineage.{lineage, inLineage, anyCreated}
+use Rattle.model.specs.Lineage.{inLineage}
 use Rattle.model.specs.Rules.{wellFormed, isUser, isCapability}
-use Rattle.model.specs.Rulings.{value, refused, Guard, _unless_, _when_, settle}
+use Rattle.model.specs.Rulings.{refused, Guard, _unless_, _when_, settle}
 use Rattle.model.specs.Revocation.{revokeGuards, revokeRuling}
 use Rattle.model.specs.Calls.{revoke, ruling, settled}
 use Rattle.model.specs.Requests.{refusalNumber}

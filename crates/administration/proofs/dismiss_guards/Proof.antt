@@ -1,7 +1,7 @@
 use borrow.Author.Needs.{needs}
 use mathlib.Core.Path.{refl, ap}
 use mathlib.Core.Bool.{Bool, not, _&&_}
-use Rattle.slots.proofs.GuardLaws.{test, test-unless, nothing-more}
+use Rattle.slots.proofs.GuardLaws.{test-unless, nothing-more}
 use Rattle.administration.proofs.dismiss_guards.Statement.{statement}
 use Rattle.administration.proofs.dismiss_guards.Tie as tie
 

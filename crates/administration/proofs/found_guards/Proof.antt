@@ -1,6 +1,6 @@
 use borrow.Author.Needs.{needs}
-use mathlib.Core.Path.{refl, ap}
-use mathlib.Core.Bool.{Bool, not, _&&_}
+use mathlib.Core.Path.{refl}
+use mathlib.Core.Bool.{_&&_}
 use Rattle.slots.proofs.GuardLaws.{test, test-unless, nothing-more}
 use Rattle.administration.proofs.found_guards.Statement.{statement}
 use Rattle.administration.proofs.found_guards.Tie as tie

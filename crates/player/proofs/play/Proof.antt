@@ -11,7 +11,6 @@ use lib.ListN.{length, take, drop}
 use Rattle.buffers.proofs.Parts.{tail, length-tail, placed-nil}
 use Rattle.masks.proofs.Truth.{true→T}
 use Rattle.model.specs.declared.Register.{Register}
-use Rattle.model.specs.declared.Refusal.{Refusal}
 use Rattle.model.specs.Rules.{wellFormed}
 use Rattle.model.specs.Rulings.{Outcome, refused}
 use Rattle.model.specs.Requests.{refusalNumber, outcomeOf}
@@ -28,11 +27,10 @@ use Rattle.tree.specs.Orders.{orderEffect}
 use Rattle.sessions.proofs.Commits.{check-done}
 use Rattle.dispatch.specs.Decide.{decideOf}
 use Rattle.dispatch.proofs.Columns.{column-kept}
-use Rattle.dispatch.proofs.Commits.{AtPlaces, placed, commit}
+use Rattle.dispatch.proofs.Commits.{placed, commit}
 use Rattle.text.specs.Parts.{before}
 use Rattle.player.proofs.Transcripts.{transcript-last, transcript-done}
 use Rattle.answers.specs.Writing.{printedInto, filled}
-use Rattle.player.specs.declared.step.Step.the-variants.{Refuse}
 use Rattle.player.specs.Steps.{Fits}
 use Rattle.player.proofs.Laws.{Playing, left-fits, to-within, turn, no-wrap, line-done, formed-after, answer-last, answer-size, unended-some}
 use Rattle.player.proofs.Room.{transcript-most}

@@ -1,6 +1,6 @@
 -- `sweeps::swept` meets its contract.
 use borrow.Author.Needs.{needs}
-use mathlib.Core.Bool.{Bool, _||_}
+use mathlib.Core.Bool.{_||_}
 use mathlib.Core.Path.{ap, _∙_}
 use Prim.Native.Nat.{ℕ}
 use Rattle.model.specs.State.{Terms}

@@ -1,6 +1,5 @@
 use borrow.Author.Needs.{needs}
 use Rattle.model.specs.State.{admitted, admittedTests}
-use mathlib.Core.Bool.{true}
 use Rattle.origins.specs.Terms.{termsIn}
 use Rattle.masks.proofs.Truth.{left-each}
 use Rattle.origins.proofs.terms.admits.Statement.{statement}

@@ -1,5 +1,4 @@
 use borrow.Author.Needs.{needs}
-use mathlib.Core.Path.{ap}
 use Rattle.origins.specs.Terms.{slotTerms}
 use Rattle.origins.proofs.terms.allowance_of.Statement.{statement}
 use Rattle.origins.proofs.terms.allowance_of.Tie as tie
