@@ -1,5 +1,5 @@
 -- What an origin allows, as the code reads it, and the rules of one thing over that.
-use mathlib.Core.Bool.{Bool, false, cond, _&&_}
+use mathlib.Core.Bool.{Bool, cond, _&&_}
 use mathlib.Core.List.{List, [], _∷_}
 use Prim.Native.Nat.{ℕ, _%_, _^_}
 use lib.Dec.{eqb, leb, ltb}

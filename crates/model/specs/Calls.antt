@@ -1,12 +1,12 @@
 -- Document 01, "The calls": the sixteen from enrol to close, and same, as one step over calls with arguments of any size.
-use mathlib.Core.List.{List, [], _∷_}
+use mathlib.Core.List.{[], _∷_}
 use Prim.Native.Nat.{ℕ}
 use Rattle.model.specs.declared.Origin.{Origin}
 use Rattle.model.specs.declared.Register.{Register}
 use Rattle.model.specs.declared.Context.{Context}
 use Rattle.model.specs.declared.Plan.{Plan}
 use Rattle.model.specs.Rules.{wellFormed}
-use Rattle.model.specs.Rulings.{Effect, Ruling, Guard, _unless_, settle, ruled}
+use Rattle.model.specs.Rulings.{Effect, Ruling, _unless_, settle, ruled}
 use Rattle.model.specs.Administration.{enrolRuling, foundRuling, grantRuling, withdrawRuling, appointRuling, dismissRuling, clockRuling}
 use Rattle.model.specs.Delegation.{createRuling, allowRuling, lendRuling, handRuling}
 use Rattle.model.specs.Sessions.{openRuling, checkRuling, closeRuling}

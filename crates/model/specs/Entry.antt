@@ -1,5 +1,5 @@
 -- Document 01, "Journal and door": the C entry point, which the document calls the door. Its buffer is the document's area.
-use mathlib.Core.Bool.{Bool, true, false, cond}
+use mathlib.Core.Bool.{true, false, cond}
 use mathlib.Core.List.{List, [], _∷_, _++_}
 use mathlib.Core.Option.{Option, none, some}
 use Prim.Native.Nat.{ℕ, _+_}
@@ -8,7 +8,7 @@ use lib.IntN.{ℤ, pos, negℤ}
 use lib.ListN.{length}
 use Rattle.masks.specs.Bytes.{bytesOf, front, split}
 use Rattle.model.specs.declared.Register.{Register}
-use Rattle.model.specs.Rulings.{Outcome, value, refused, Effect}
+use Rattle.model.specs.Rulings.{Outcome, value, refused}
 use Rattle.model.specs.Calls.{Call, step}
 use Rattle.model.specs.Image.{encode, decode, loads}
 use Rattle.model.specs.Lines.{parse}

@@ -1,6 +1,6 @@
 -- Document 01, "The mission's third demand": lists of calls. "In a list, same, save and a refused load leave the register as
 -- it is, and an accepted load starts the list anew from its image".
-use mathlib.Core.Bool.{Bool, cond}
+use mathlib.Core.Bool.{cond}
 use mathlib.Core.List.{List, [], _∷_}
 use Prim.Native.Nat.{ℕ}
 use lib.Dec.{eqb}

@@ -2,7 +2,6 @@
 use mathlib.Core.Bool.{Bool, true, false}
 use Prim.Native.Nat.{ℕ, _%_}
 use Rattle.model.specs.declared.Origin.{Origin}
-use Rattle.model.specs.declared.Origin.the-variants.{Role as ofRole, Capability as ofCapability}
 use Rattle.model.specs.declared.Named.{Named}
 use Rattle.model.specs.declared.Named.the-variants.{Role as nameRole, Capability as nameCapability}
 use Rattle.model.specs.declared.LocalRequest.{LocalRequest}
