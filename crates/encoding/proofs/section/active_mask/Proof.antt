@@ -6,6 +6,7 @@ use Rattle.model.specs.State.{blankSession}
 use Rattle.model.specs.Image.{activeSessions}
 use Rattle.encoding.proofs.Marking.{MaskFrom, mask-start, mask-fits, mask-step, mask-done}
 use borrow.Author.Needs.{needs}
+use Rattle.masks.proofs.Truth.{the}
 use Rattle.encoding.proofs.section.active_mask.Statement.{statement}
 use Rattle.encoding.proofs.section.active_mask.Tie as tie
 
@@ -15,13 +16,10 @@ Inv-loop sessions m₀ i₀ m i = MaskFrom (λ (x : Session). x .active) 64 sess
 abbrev μ-loop : tie.MeasureT-loop
 μ-loop sessions m₀ i₀ m i = i
 
-abbrev at-loop : tie.At-loop Inv-loop μ-loop → tie.At-loop Inv-loop μ-loop
-at-loop c = c
-
 returns : tie.Need-returns Inv-loop μ-loop
 unfolding activeSessions
 returns c =
-    mask-done (at-loop (search) .loop .inv) (search)
+    mask-done (the (tie.At-loop Inv-loop μ-loop) (search) .loop .inv) (search)
 
 pub active-mask-spec : {M : Type 1} → statement M
 active-mask-spec =
@@ -30,9 +28,9 @@ active-mask-spec =
     Inv-loop μ-loop
     (λ c. mask-start tt (search needs))
     (λ c. search needs) (λ c. search needs) (λ c. search needs)
-    (λ c. omega (arith, mask-fits (at-loop (search) .loop .inv) (search) blankSession refl))
+    (λ c. omega (arith, mask-fits (the (tie.At-loop Inv-loop μ-loop) (search) .loop .inv) (search) blankSession refl))
     (λ c κs. search needs)
-    (λ c. omega (arith, mask-fits (at-loop (search) .loop .inv) (search) blankSession (c .bit-of .ensures)))
+    (λ c. omega (arith, mask-fits (the (tie.At-loop Inv-loop μ-loop) (search) .loop .inv) (search) blankSession (c .bit-of .ensures)))
     (λ c. search needs)
     (λ c. mask-step (search) (search) blankSession (search))
     returns)

@@ -5,6 +5,7 @@ use native.Mathlib.Omega.{arith}
 use lib.ListN.{length}
 use Rattle.encoding.proofs.Putting.{CapabilitiesTo, capabilities-start, capabilities-turn, capabilities-next, capabilities-passed}
 use borrow.Author.Needs.{needs}
+use Rattle.masks.proofs.Truth.{the}
 use Rattle.encoding.proofs.section.put_capabilities.Statement.{statement}
 use Rattle.encoding.proofs.section.put_capabilities.Tie as tie
 
@@ -13,12 +14,6 @@ Inv-loop s₀ count capabilities at₀ i₀ s at i = CapabilitiesTo count capabi
 
 abbrev μ-loop : tie.MeasureT-loop
 μ-loop s₀ count capabilities at₀ i₀ s at i = count - i
-
-abbrev at-loop : tie.At-loop Inv-loop μ-loop → tie.At-loop Inv-loop μ-loop
-at-loop c = c
-
-abbrev after-put-capability : tie.After-put-capability Inv-loop μ-loop → tie.After-put-capability Inv-loop μ-loop
-after-put-capability c = c
 
 loop-holds : tie.Need-loop-holds Inv-loop μ-loop
 loop-holds c =
@@ -33,9 +28,9 @@ put-capabilities-spec =
     Inv-loop μ-loop
     loop-holds
     (λ c. search needs) (λ c. search needs) (λ c. search needs) (λ c. search needs) (λ c. search needs)
-    (λ c κs. (capabilities-turn (at-loop (search) .loop .inv) (search)) .fits)
-    (λ c. omega (arith, (capabilities-turn (at-loop (search) .loop .inv) (search)) .within (after-put-capability (search) .put-capability .ensures .0)))
+    (λ c κs. (capabilities-turn (the (tie.At-loop Inv-loop μ-loop) (search) .loop .inv) (search)) .fits)
+    (λ c. omega (arith, (capabilities-turn (the (tie.At-loop Inv-loop μ-loop) (search) .loop .inv) (search)) .within (the (tie.After-put-capability Inv-loop μ-loop) (search) .put-capability .ensures .0)))
     (λ c. search needs) (λ c. search needs)
-    (λ c. capabilities-next (search) (search) (after-put-capability (search) .put-capability .ensures) (search))
+    (λ c. capabilities-next (search) (search) (the (tie.After-put-capability Inv-loop μ-loop) (search) .put-capability .ensures) (search))
     (λ c. search needs)
-    (λ c. capabilities-passed (at-loop (search) .loop .inv) (search)))
+    (λ c. capabilities-passed (the (tie.At-loop Inv-loop μ-loop) (search) .loop .inv) (search)))

@@ -4,6 +4,7 @@ use native.Mathlib.Omega.{arith}
 use Rattle.masks.specs.Bytes.{bytesOf}
 use Rattle.encoding.proofs.Putting.{ItemsTo, items-turn, items-step, items-passed}
 use borrow.Author.Needs.{needs}
+use Rattle.masks.proofs.Truth.{the}
 use Rattle.encoding.proofs.section.put_domains.Statement.{statement}
 use Rattle.encoding.proofs.section.put_domains.Tie as tie
 
@@ -16,17 +17,14 @@ abbrev μ-loop : tie.MeasureT-loop
 abbrev at-loop : tie.At-loop Inv-loop μ-loop → tie.At-loop Inv-loop μ-loop
 at-loop c = c
 
-abbrev after-put-domain-if : tie.After-put-domain-if Inv-loop μ-loop → tie.After-put-domain-if Inv-loop μ-loop
-after-put-domain-if c = c
-
 pub put-domains-spec : {M : Type 1} → statement M
 put-domains-spec =
     tie.close
     (tie.spec
     Inv-loop μ-loop (λ c. search needs) (λ c. search needs) (λ c. search needs) (λ c. search needs) (λ c. search needs)
     (λ c κs. (items-turn (at-loop (search) .loop .inv) 0 (search)) .fits)
-    (λ c. omega (arith, (items-turn (at-loop (search) .loop .inv) 0 (search)) .within (after-put-domain-if (search) .put-domain-if .ensures .0)))
+    (λ c. omega (arith, (items-turn (at-loop (search) .loop .inv) 0 (search)) .within (the (tie.After-put-domain-if Inv-loop μ-loop) (search) .put-domain-if .ensures .0)))
     (λ c. search needs) (λ c. search needs)
-    (λ c. items-step (at-loop (search) .loop .inv) 0 (search) (after-put-domain-if (search) .put-domain-if .ensures) (search))
+    (λ c. items-step (at-loop (search) .loop .inv) 0 (search) (the (tie.After-put-domain-if Inv-loop μ-loop) (search) .put-domain-if .ensures) (search))
     (λ c. search needs)
     (λ c. items-passed (at-loop (search) .loop .inv) (search)))

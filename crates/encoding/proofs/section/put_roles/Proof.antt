@@ -5,6 +5,7 @@ use Rattle.model.specs.State.{blankRole}
 use Rattle.model.specs.Fields.{writeRole}
 use Rattle.encoding.proofs.Putting.{ItemsTo, items-turn, items-step, items-passed}
 use borrow.Author.Needs.{needs}
+use Rattle.masks.proofs.Truth.{the}
 use Rattle.encoding.proofs.section.put_roles.Statement.{statement}
 use Rattle.encoding.proofs.section.put_roles.Tie as tie
 
@@ -17,18 +18,11 @@ abbrev μ-loop : tie.MeasureT-loop
 abbrev at-loop : tie.At-loop Inv-loop μ-loop → tie.At-loop Inv-loop μ-loop
 at-loop c = c
 
-abbrev after-put-role-if : tie.After-put-role-if Inv-loop μ-loop → tie.After-put-role-if Inv-loop μ-loop
-after-put-role-if c = c
-
 pub put-roles-spec : {M : Type 1} → statement M
 put-roles-spec =
     tie.close
-    (tie.spec
-    Inv-loop μ-loop (λ c. search needs) (λ c. search needs) (λ c. search needs) (λ c. search needs) (λ c. search needs)
-    (λ c. search needs)
+    (tie.spec Inv-loop μ-loop (λ c. search needs) (λ c. search needs) (λ c. search needs) (λ c. search needs) (λ c. search needs) (λ c. search needs)
     (λ c κs. (items-turn (at-loop (search) .loop .inv) blankRole (search)) .fits)
-    (λ c. omega (arith, (items-turn (at-loop (search) .loop .inv) blankRole (search)) .within (after-put-role-if (search) .put-role-if .ensures .0)))
-    (λ c. search needs) (λ c. search needs)
-    (λ c. items-step (at-loop (search) .loop .inv) blankRole (search) (after-put-role-if (search) .put-role-if .ensures) (search))
-    (λ c. search needs)
+    (λ c. omega (arith, (items-turn (at-loop (search) .loop .inv) blankRole (search)) .within (the (tie.After-put-role-if Inv-loop μ-loop) (search) .put-role-if .ensures .0))) (λ c. search needs) (λ c. search needs)
+    (λ c. items-step (at-loop (search) .loop .inv) blankRole (search) (the (tie.After-put-role-if Inv-loop μ-loop) (search) .put-role-if .ensures) (search)) (λ c. search needs)
     (λ c. items-passed (at-loop (search) .loop .inv) (search)))

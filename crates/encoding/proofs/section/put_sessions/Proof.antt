@@ -5,6 +5,7 @@ use Rattle.model.specs.State.{blankSession}
 use Rattle.model.specs.Fields.{writeSession}
 use Rattle.encoding.proofs.Putting.{ItemsTo, items-turn, items-step, items-passed}
 use borrow.Author.Needs.{needs}
+use Rattle.masks.proofs.Truth.{the}
 use Rattle.encoding.proofs.section.put_sessions.Statement.{statement}
 use Rattle.encoding.proofs.section.put_sessions.Tie as tie
 
@@ -17,18 +18,11 @@ abbrev μ-loop : tie.MeasureT-loop
 abbrev at-loop : tie.At-loop Inv-loop μ-loop → tie.At-loop Inv-loop μ-loop
 at-loop c = c
 
-abbrev after-put-session-if : tie.After-put-session-if Inv-loop μ-loop → tie.After-put-session-if Inv-loop μ-loop
-after-put-session-if c = c
-
 pub put-sessions-spec : {M : Type 1} → statement M
 put-sessions-spec =
     tie.close
-    (tie.spec
-    Inv-loop μ-loop (λ c. search needs) (λ c. search needs) (λ c. search needs) (λ c. search needs) (λ c. search needs)
-    (λ c. search needs)
+    (tie.spec Inv-loop μ-loop (λ c. search needs) (λ c. search needs) (λ c. search needs) (λ c. search needs) (λ c. search needs) (λ c. search needs)
     (λ c κs. (items-turn (at-loop (search) .loop .inv) blankSession (search)) .fits)
-    (λ c. omega (arith, (items-turn (at-loop (search) .loop .inv) blankSession (search)) .within (after-put-session-if (search) .put-session-if .ensures .0)))
-    (λ c. search needs) (λ c. search needs)
-    (λ c. items-step (at-loop (search) .loop .inv) blankSession (search) (after-put-session-if (search) .put-session-if .ensures) (search))
-    (λ c. search needs)
+    (λ c. omega (arith, (items-turn (at-loop (search) .loop .inv) blankSession (search)) .within (the (tie.After-put-session-if Inv-loop μ-loop) (search) .put-session-if .ensures .0))) (λ c. search needs) (λ c. search needs)
+    (λ c. items-step (at-loop (search) .loop .inv) blankSession (search) (the (tie.After-put-session-if Inv-loop μ-loop) (search) .put-session-if .ensures) (search)) (λ c. search needs)
     (λ c. items-passed (at-loop (search) .loop .inv) (search)))

@@ -4,6 +4,7 @@ use native.Mathlib.Omega.{arith}
 use lib.ListN.{length}
 use Rattle.fields.proofs.Putting.{each-present, FieldsTo, fields-turn, fields-step, fields-done}
 use borrow.Author.Needs.{needs}
+use Rattle.masks.proofs.Truth.{the}
 use Rattle.fields.proofs.field.put_present.Statement.{statement}
 use Rattle.fields.proofs.field.put_present.Tie as tie
 
@@ -16,19 +17,12 @@ abbrev μ-loop : tie.MeasureT-loop
 abbrev at-loop : tie.At-loop Inv-loop μ-loop → tie.At-loop Inv-loop μ-loop
 at-loop c = c
 
-abbrev after-put-set : tie.After-put-set Inv-loop μ-loop → tie.After-put-set Inv-loop μ-loop
-after-put-set c = c
-
 pub put-present-spec : {M : Type 1} → statement M
 put-present-spec =
     tie.close
-    (tie.spec
-    Inv-loop μ-loop (λ c. search needs) (λ c. search needs) (λ c. search needs) (λ c. search needs) (λ c. search needs)
-    (λ c. omega (arith, c .shared-slice-known3 .given (at-loop (search) .loop .i)))
-    (λ c. search needs) (λ c. search needs)
+    (tie.spec Inv-loop μ-loop (λ c. search needs) (λ c. search needs) (λ c. search needs) (λ c. search needs) (λ c. search needs)
+    (λ c. omega (arith, c .shared-slice-known3 .given (at-loop (search) .loop .i))) (λ c. search needs) (λ c. search needs)
     (λ c κs. (fields-turn (at-loop (search) .loop .inv) (search)) .fits)
-    (λ c. omega (arith, (fields-turn (at-loop (search) .loop .inv) (search)) .within (after-put-set (search) .put-set .ensures .0)))
-    (λ c. search needs) (λ c. search needs)
-    (λ c. fields-step (at-loop (search) .loop .inv) (search) (after-put-set (search) .put-set .ensures) (search))
-    (λ c. search needs)
+    (λ c. omega (arith, (fields-turn (at-loop (search) .loop .inv) (search)) .within (the (tie.After-put-set Inv-loop μ-loop) (search) .put-set .ensures .0))) (λ c. search needs) (λ c. search needs)
+    (λ c. fields-step (at-loop (search) .loop .inv) (search) (the (tie.After-put-set Inv-loop μ-loop) (search) .put-set .ensures) (search)) (λ c. search needs)
     (λ c. fields-done (at-loop (search) .loop .inv) (search)))

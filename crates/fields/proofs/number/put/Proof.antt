@@ -3,6 +3,7 @@
 use Rattle.buffers.proofs.Digits.{DigitsFrom, digits-start, digits-step, digits-done}
 use Rattle.fields.proofs.Parts.{byte-digits}
 use borrow.Author.Needs.{needs}
+use Rattle.masks.proofs.Truth.{the}
 use Rattle.fields.proofs.number.put.Statement.{statement}
 use Rattle.fields.proofs.number.put.Tie as tie
 
@@ -12,9 +13,6 @@ Inv-loop s₀ k n i₀ x₀ s i x = DigitsFrom byte-digits k n s₀ s i x
 abbrev μ-loop : tie.MeasureT-loop
 μ-loop s₀ k n i₀ x₀ s i x = i
 
-abbrev at-loop : tie.At-loop Inv-loop μ-loop → tie.At-loop Inv-loop μ-loop
-at-loop c = c
-
 pub put-spec : {M : Type 1} → statement M
 put-spec =
     tie.close
@@ -22,6 +20,6 @@ put-spec =
     Inv-loop μ-loop
     (λ c. digits-start (search))
     (λ c. search needs) (λ c. search needs) (λ c. search needs) (λ c. search needs)
-    (λ c. digits-step (at-loop (search) .loop .inv) (search))
+    (λ c. digits-step (the (tie.At-loop Inv-loop μ-loop) (search) .loop .inv) (search))
     (λ c. search needs)
-    (λ c. digits-done (at-loop (search) .loop .inv) (search)))
+    (λ c. digits-done (the (tie.At-loop Inv-loop μ-loop) (search) .loop .inv) (search)))

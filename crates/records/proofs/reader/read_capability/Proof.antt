@@ -9,20 +9,12 @@ use Rattle.fields.specs.Codes.{narrow}
 use Rattle.records.proofs.Reading.{capability-length-small}
 use Rattle.records.proofs.Tables.{says-table, capability-codes, capability-count, head-fitted, present-fitted, capability-reads, exact-reads, length-reads}
 use borrow.Author.Needs.{needs}
+use Rattle.masks.proofs.Truth.{the}
 use Rattle.records.proofs.reader.read_capability.Statement.{statement}
 use Rattle.records.proofs.reader.read_capability.Tie as tie
 
 abbrev start : tie.Start → tie.Start
 start c = c
-
-abbrev head : tie.After-read-head → tie.After-read-head
-head c = c
-
-abbrev codes : tie.After-capability-codes → tie.After-capability-codes
-codes c = c
-
-abbrev present : tie.After-read-present → tie.After-read-present
-present c = c
 
 table : (c : tie.After-capability-codes) → (length (c .capability-codes .result) ≡ 15) × (length (c .capability-codes .result) ≤ 16) × T (narrow (c .capability-codes .result))
 table c = says-table 15 (omega arith) (c .capability-codes .ensures) capability-count capability-codes
@@ -30,9 +22,9 @@ table c = says-table 15 (omega arith) (c .capability-codes .ensures) capability-
 capability-of-requires : tie.Need-capability-of-requires
 capability-of-requires c κs =
     let a = start (search) .args in
-    let h = head (search) .read-head .ensures in (
+    let h = the tie.After-read-head (search) .read-head .ensures in (
       head-fitted (a .s .now) (a .at) (search) h,
-      present-fitted (a .s .now) (a .at) (search) h (codes (search) .capability-codes .ensures) (present (search) .read-present .ensures),
+      present-fitted (a .s .now) (a .at) (search) h (the tie.After-capability-codes (search) .capability-codes .ensures) (the tie.After-read-present (search) .read-present .ensures),
     )
 
 -- the place after it
@@ -40,16 +32,16 @@ next : (c : tie.After-present-length) → let start : tie.Start = search in
     start .args .at + 5 + c .present-length .result ≡ start .args .at + capabilityLength (drop (start .args .at) (start .args .s .now))
 next c =
     let a = start (search) .args in
-    length-reads (a .s .now) (a .at) (head (search) .read-head .ensures) (codes (search) .capability-codes .ensures) (c .present-length .ensures)
+    length-reads (a .s .now) (a .at) (the tie.After-read-head (search) .read-head .ensures) (the tie.After-capability-codes (search) .capability-codes .ensures) (c .present-length .ensures)
 
 returns : tie.Need-returns
 returns c =
     let value : tie.After-capability-of = search in
     let a = start (search) .args in
     let b = start (search) .pre .1 in
-    let h = head (search) .read-head .ensures in
-    let t = codes (search) .capability-codes .ensures in
-    let p = present (search) .read-present .ensures in (
+    let h = the tie.After-read-head (search) .read-head .ensures in
+    let t = the tie.After-capability-codes (search) .capability-codes .ensures in
+    let p = the tie.After-read-present (search) .read-present .ensures in (
       value .capability-of .ensures ∙ capability-reads (a .s .now) (a .at) b h t p,
       next c,
       exact-reads (a .s .now) (a .at) b h t p (search),

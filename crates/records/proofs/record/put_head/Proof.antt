@@ -5,6 +5,7 @@ use lib.ListN.{length}
 use Rattle.records.specs.Codes.{writeHead}
 use Rattle.records.proofs.Tables.{Writes, head-writes, head-length}
 use borrow.Author.Needs.{needs}
+use Rattle.masks.proofs.Truth.{the}
 use Rattle.records.proofs.record.put_head.Statement.{statement}
 use Rattle.records.proofs.record.put_head.Tie as tie
 
@@ -13,9 +14,6 @@ codes c = search
 
 abbrev start : tie.After-head-fields → tie.Start
 start c = search
-
-abbrev all : tie.After-put-all → tie.After-put-all
-all c = c
 
 room : (start : tie.Start) → length (writeHead (start .args .c)) ≡ 5
 room start = head-length (start .args .c)
@@ -30,4 +28,4 @@ put-head-spec =
     (λ c κs. search needs) (λ c κs. search needs) (λ c. search needs) (λ c. search needs)
     (λ c κs. let w = writes (search) in (w .amount, rw (w .bytes-are) (omega (arith, room (search)))))
     (λ c. search needs)
-    (λ c. rw (writes (search) .bytes-are) at (all (search) .put-all .ensures .1)))
+    (λ c. rw (writes (search) .bytes-are) at (the tie.After-put-all (search) .put-all .ensures .1)))

@@ -2,6 +2,7 @@
 use Rattle.model.specs.Fields.{writeRole}
 use Rattle.records.proofs.Tables.{Writes, role-writes}
 use borrow.Author.Needs.{needs}
+use Rattle.masks.proofs.Truth.{the}
 use Rattle.records.proofs.record.put_role.Statement.{statement}
 use Rattle.records.proofs.record.put_role.Tie as tie
 
@@ -10,9 +11,6 @@ codes c = search
 
 abbrev start : tie.After-role-fields → tie.Start
 start c = search
-
-abbrev all : tie.After-put-all → tie.After-put-all
-all c = c
 
 writes : (c : tie.After-role-fields) → Writes (codes c .role-codes .result) (c .role-fields .result) (writeRole (start c .args .x))
 writes c = role-writes _ _ (start c .args .x) (codes c .role-codes .ensures) (c .role-fields .ensures)
@@ -24,4 +22,4 @@ put-role-spec =
     (λ c κs. search needs) (λ c κs. search needs) (λ c. search needs) (λ c. search needs)
     (λ c κs. let w = writes (search) in (w .amount, rw (w .bytes-are) (search)))
     (λ c. search needs)
-    (λ c. rw (writes (search) .bytes-are) at (all (search) .put-all .ensures)))
+    (λ c. rw (writes (search) .bytes-are) at (the tie.After-put-all (search) .put-all .ensures)))

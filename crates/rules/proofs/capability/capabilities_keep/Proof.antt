@@ -15,6 +15,7 @@ use Rattle.rules.specs.Columns.{tally}
 use Rattle.rules.proofs.Laws.{all-more, all-fails}
 use Rattle.rules.proofs.Counts.{tally-le, tally-more, tally-at, tally-length}
 use Rattle.rules.proofs.Agreement.{place-agrees}
+use Rattle.masks.proofs.Truth.{the}
 use Rattle.rules.proofs.capability.capabilities_keep.Statement.{statement}
 use Rattle.rules.proofs.capability.capabilities_keep.Tie as tie
 
@@ -40,9 +41,6 @@ start c = c
 
 abbrev counting : tie.At-loop Inv-loop μ-loop Inv-loop2 μ-loop2 → tie.At-loop Inv-loop μ-loop Inv-loop2 μ-loop2
 counting c = c
-
-abbrev turn : tie.At-loop2 Inv-loop μ-loop Inv-loop2 μ-loop2 → tie.At-loop2 Inv-loop μ-loop Inv-loop2 μ-loop2
-turn c = c
 
 abbrev places : tie.After-places Inv-loop μ-loop Inv-loop2 μ-loop2 → tie.After-places Inv-loop μ-loop Inv-loop2 μ-loop2
 places c = c
@@ -106,20 +104,20 @@ found c few =
     (ap (λ t. getD t (l .i) 0) (l .inv .2 few) ∙ tally-at (r .capabilities) (l .i) (r .count) (omega (arith, begun c .pre)))
 
 returns : tie.Need-returns Inv-loop μ-loop Inv-loop2 μ-loop2
-returns c few = all-fails _ (turn (search) .loop2 .i) _ (omega arith) (sym (found (search) few) ∙ not-true _ (c .if1 .taken))
+returns c few = all-fails _ (the (tie.At-loop2 Inv-loop μ-loop Inv-loop2 μ-loop2) (search) .loop2 .i) _ (omega arith) (sym (found (search) few) ∙ not-true _ (c .if1 .taken))
 
 add-i : tie.Need-add-i Inv-loop μ-loop Inv-loop2 μ-loop2
 add-i c = omega (arith, start (search) .pre)
 
 loop2-again : tie.Need-loop2-again Inv-loop μ-loop Inv-loop2 μ-loop2
 loop2-again c =
-    let l = turn (search) .loop2 in
+    let l = the (tie.At-loop2 Inv-loop μ-loop Inv-loop2 μ-loop2) (search) .loop2 in
     (search needs, l .inv .1, l .inv .2, (λ few. all-more (l .i) _ (l .inv .3 few) (sym (not-false _ (c .if1 .left)) ∙ found (search) few)))
 
 returns-2 : tie.Need-returns-2 Inv-loop μ-loop Inv-loop2 μ-loop2
 returns-2 c few =
     let r = start (search) .args .t1 in
-    let l = turn (search) .loop2 in
+    let l = the (tie.At-loop2 Inv-loop μ-loop Inv-loop2 μ-loop2) (search) .loop2 in
     l .inv .3 few ∙ ap (λ n. allBelow n (λ n. placeKeeps (r .enrolled) (r .roles) (r .count) (r .capabilities) n (capabilityAt (r .capabilities) n))) {x = l .i} (omega arith)
 
 pub capabilities-keep-spec : {M : Type 1} → statement M
