@@ -13,7 +13,7 @@ use model::Register;
 use model::Reply;
 use model::Request;
 use model::TreeRequest;
-use origins::authority::authorities_of;
+use origins::authority::columns_of;
 use places::capability_at;
 use places::names_of;
 use places::parent_at;
@@ -32,7 +32,7 @@ fn apply_local(r: Register, q: LocalRequest) -> Reply
     ensures { λ z. ⌜ effectOf z ≡ settled r (localCall q) ⌝ }
 {
     let roles = r.roles;
-    let authorities = authorities_of(roles);
+    let columns = columns_of(roles);
     let m = names_of(q);
     let un = user_at(m);
     let sn = session_at(m);
@@ -44,7 +44,7 @@ fn apply_local(r: Register, q: LocalRequest) -> Reply
     let pn = parent_at(m, c);
     let p = r.capabilities[pn];
     let v = seen(r.clock, r.enrolled, r.count, r.domains[un], x, p, c, s);
-    let d = decide(v, &authorities, q);
+    let d = decide(v, &columns, q);
     let w = d.slots;
     let mut next = r;
     next.clock = w.clock;

@@ -22,7 +22,8 @@ use Rattle.model.specs.Delegation.{createRanges, creating, createRuling, creati
 use Rattle.model.specs.Calls.{ruling, settled}
 use Rattle.model.specs.Requests.{namedOrigin, localCall}
 use Rattle.model.proofs.Settling.{passed}
-use Rattle.origins.proofs.Laws.{in-range, Column, placed-party, placed-terms}
+use Rattle.origins.specs.Authority.{Columns}
+use Rattle.origins.proofs.Laws.{in-range, placed-party, placed-terms}
 use Rattle.slots.specs.Slots.{Places, look, lifted}
 use Rattle.slots.specs.Terms.{OriginPlaced, createdIn}
 use Rattle.slots.proofs.SlotLaws.{put-created, ranged-commit}
@@ -34,18 +35,18 @@ counted-placed : (r : Register) (p : Places) (o : Origin) → OriginPlaced p o �
 counted-placed r p (ofRole k) e h = set-getD _ _ _
 counted-placed r p (ofCapability n) e h = rw (e, in-range n 256 h)
 
-pub create-commit : (r : Register) (p : Places) (authorities : List ℕ) (user : ℕ) (o : Named) (at : Context) (plan : Plan) → Column authorities (r .roles)
+pub create-commit : (r : Register) (p : Places) (columns : List ℕ) (user : ℕ) (o : Named) (at : Context) (plan : Plan) → Columns columns (r .roles)
     → p .capability ≡ r .count % 256 → OriginPlaced p (namedOrigin o)
-    → lifted r p (createDecision (look r p) authorities user o at plan) ≡ settled r (localCall (Create user o at plan))
+    → lifted r p (createDecision (look r p) columns user o at plan) ≡ settled r (localCall (Create user o at plan))
 unfolding createDecision settled ruling createRuling
-create-commit r p authorities user o at plan column e placed =
+create-commit r p columns user o at plan column e placed =
     let x = namedOrigin o in
     let ts = createRanges user x at plan in
     let b = creating (r .clock) (r .enrolled) (r .count) (partyOf r x) (termsOf r x) user x at plan in
-    ranged-commit r p ts (creatingOn (look r p) authorities x user o at plan) b _ _ refl refl
+    ranged-commit r p ts (creatingOn (look r p) columns x user o at plan) b _ _ refl refl
     (λ t. ap₂ (λ (y : Party) (z : Terms). creating (r .clock) (r .enrolled) (r .count) y z user x at plan)
     (placed-party (r .roles) (r .capabilities) x (p .role) (p .parent) (each-at ts t 1) placed)
-    (placed-terms authorities (r .roles) column (r .capabilities) x (p .role) (p .parent) (each-at ts t 1) placed))
+    (placed-terms columns (r .roles) column (r .capabilities) x (p .role) (p .parent) (each-at ts t 1) placed))
     (λ t g c.
     put-created r p _ _ c
     ∙ ap₂ (λ (cs : List Capability) (j : ℕ). withCount r (suc (r .count)) (set cs j c)) (counted-placed r p x placed (each-at ts t 1)) (e ∙ in-range (r .count) 256 (passed 12 (drop 1 (b .guards)) g .0)))

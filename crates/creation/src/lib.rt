@@ -115,16 +115,16 @@ fn create_guards(
 // The slot `role` or `parent` is the origin, the slot `capability` the place of the new capability.
 pub fn decide_create(
     v: Slots,
-    authorities: &[u32; 32],
+    columns: &[u32; 64],
     user: u32,
     origin: Named,
     at: Context,
     plan: Plan,
 ) -> Decision
-    ensures { λ q. ⌜ ruledOf q ≡ createDecision v (now (authorities .entry)) user origin at plan ⌝ }
+    ensures { λ q. ⌜ ruledOf q ≡ createDecision v (now (columns .entry)) user origin at plan ⌝ }
 {
     let o = origin_named(origin);
-    let a = origin_allows(v, authorities, o);
+    let a = origin_allows(v, columns, o);
     let k = create_guards(v, o, a, user, origin, at, plan);
     let p = created_in(o, v.parent);
     let c = made(user, origin, plan);

@@ -1,4 +1,4 @@
--- The column of the roles' authorities stays in step with the register where a request changes no role.
+-- The columns of the roles stay in step with the register where a request changes no role.
 use mathlib.Core.Path.{_≡_, refl, sym, ap, _∙_, subst}
 use mathlib.Core.Bool.{false}
 use mathlib.Core.List.{List}
@@ -11,7 +11,7 @@ use Rattle.model.specs.declared.LocalRequest.the-variants.{Enrol, Found, Grant,
 use Rattle.model.specs.declared.Register.{Register}
 use Rattle.model.specs.Rulings.{Effect, Guard, settle}
 use Rattle.model.proofs.Settling.{Settled, accepted, declined, settle-cases}
-use Rattle.origins.proofs.Laws.{Column}
+use Rattle.origins.specs.Authority.{Columns}
 use Rattle.slots.specs.declared.Slots.{Slots}
 use Rattle.slots.specs.declared.Decision.{Decision}
 use Rattle.slots.specs.Slots.{Places, look, put, ruledOf}
@@ -47,8 +47,8 @@ role-stays v column (Check s permission) e = refl
 role-stays v column (Close s) e = settle-role v _ _ _ refl
 
 -- what was decided, put back
-pub column-kept : (r : Register) (p : Places) (column : List ℕ) (q : LocalRequest) (d : Decision) → Column column (r .roles) → ruledOf d ≡ decideOf (look r p) column q → changesRole (namesOf q .follow) ≡ false
-    → Column column (set (r .roles) (p .role) (d .slots .role))
-column-kept r p column q d h e f =
+pub columns-kept : (r : Register) (p : Places) (column : List ℕ) (q : LocalRequest) (d : Decision) → Columns column (r .roles) → ruledOf d ≡ decideOf (look r p) column q → changesRole (namesOf q .follow) ≡ false
+    → Columns column (set (r .roles) (p .role) (d .slots .role))
+columns-kept r p column q d h e f =
     let same : d .slots .role ≡ (look r p) .role = ap (λ (x : Effect Slots). x .after .role) e ∙ role-stays (look r p) column q f in
-    subst (Column column) (sym (ap (set (r .roles) (p .role)) same ∙ set-getD (r .roles) (p .role) _)) h
+    subst (Columns column) (sym (ap (set (r .roles) (p .role)) same ∙ set-getD (r .roles) (p .role) _)) h

@@ -19,7 +19,7 @@ use Rattle.slots.specs.declared.Decision.{Decision}
 use Rattle.slots.specs.Slots.{Places, look, ruledOf, lifted}
 use Rattle.slots.specs.Terms.{OriginPlaced, OnPlaced}
 use Rattle.origins.specs.Numbers.{roleHeld, capabilityHeld}
-use Rattle.origins.proofs.Laws.{Column}
+use Rattle.origins.specs.Authority.{Columns}
 use Rattle.places.specs.declared.Names.{Names}
 use Rattle.places.specs.Requests.{namesOf, placesIn, capabilityPlace, rolePlace, parentPlace, roleIn, capabilityIn}
 use Rattle.administration.proofs.Commits.{enrol-commit, found-commit, grant-commit, appoint-commit, dismiss-commit, clock-commit}
@@ -45,7 +45,7 @@ session-placed : (p : Places) (o : Named) → p .role ≡ roleIn o % 32 → p .c
 session-placed p (nameRole k) a b = a
 session-placed p (nameCapability n) a b = b
 
-pub one-commit : (r : Register) (column : List ℕ) (q : LocalRequest) → T (wellFormed r) → Column column (r .roles)
+pub one-commit : (r : Register) (column : List ℕ) (q : LocalRequest) → T (wellFormed r) → Columns column (r .roles)
     → lifted r (placesIn r (namesOf q)) (decideOf (look r (placesIn r (namesOf q))) column q) ≡ settled r (localCall q)
 one-commit r column (Enrol user domain) k h = enrol-commit r _ user domain refl
 one-commit r column (Found role domain hours places devices) k h = found-commit r _ role domain hours places devices refl
@@ -72,7 +72,7 @@ one-commit r column (Check s permission) k h =
 one-commit r column (Close s) k h = close-commit r _ s refl
 
 -- what was decided over the elements at the places of a request, and put back there
-pub committed : (r : Register) (p : Places) (column : List ℕ) (q : LocalRequest) (d : Decision) → T (wellFormed r) → Column column (r .roles)
+pub committed : (r : Register) (p : Places) (column : List ℕ) (q : LocalRequest) (d : Decision) → T (wellFormed r) → Columns column (r .roles)
     → p ≡ placesIn r (namesOf q) → ruledOf d ≡ decideOf (look r p) column q → lifted r p (ruledOf d) ≡ settled r (localCall q)
 committed r p column q d k h e ed =
     ap (lifted r p) ed
@@ -98,7 +98,7 @@ module _ (r : Register) (m : Names) (un sn cn rn pn : ℕ) where
       same : placed ≡ placesIn r m
       same = rw (f .role, f .parent, f .capability, f .session, f .user) refl
 
-  pub commit : (column : List ℕ) (q : LocalRequest) (v : Slots) (d : Decision) → T (wellFormed r) → Column column (r .roles)
+  pub commit : (column : List ℕ) (q : LocalRequest) (v : Slots) (d : Decision) → T (wellFormed r) → Columns column (r .roles)
       → m ≡ namesOf q → AtPlaces → v ≡ look r placed → ruledOf d ≡ decideOf v column q → lifted r placed (ruledOf d) ≡ settled r (localCall q)
   commit column q v d k h em f ev ed =
       committed r placed column q d k h (found q em f) (ed ∙ ap (λ (w : Slots). decideOf w column q) ev)

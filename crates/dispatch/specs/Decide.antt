@@ -10,7 +10,7 @@ use Rattle.creation.specs.Creation.{createDecision}
 use Rattle.giving.specs.Giving.{allowDecision, lendDecision, handDecision}
 use Rattle.sessions.specs.Sessions.{openDecision, checkDecision, closeDecision}
 
--- by the column of the roles' authorities
+-- by the columns of the roles
 abbrev pub decideOf : Slots → List ℕ → LocalRequest → Effect Slots
 decideOf v column (Enrol user domain) = enrolDecision v user domain
 decideOf v column (Found role domain hours places devices) = foundDecision v role domain hours places devices

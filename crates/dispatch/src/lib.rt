@@ -32,8 +32,8 @@ use tree::revoking::revoke_order;
 use tree::withdrawing::withdraw_order;
 
 // A request that changes only elements that it names.
-pub fn decide(v: Slots, authorities: &[u32; 32], q: LocalRequest) -> Decision
-    ensures { λ z. ⌜ ruledOf z ≡ decideOf v (now (authorities .entry)) q ⌝ }
+pub fn decide(v: Slots, columns: &[u32; 64], q: LocalRequest) -> Decision
+    ensures { λ z. ⌜ ruledOf z ≡ decideOf v (now (columns .entry)) q ⌝ }
 {
     match q {
         LocalRequest::Enrol(user, domain) => decide_enrol(v, user, domain),
@@ -51,19 +51,19 @@ pub fn decide(v: Slots, authorities: &[u32; 32], q: LocalRequest) -> Decision
         LocalRequest::Clock(tick) => decide_clock(v, tick),
         LocalRequest::Create(user, origin, at, plan) => decide_create(
             v,
-            authorities,
+            columns,
             user,
             origin,
             at,
             plan,
         ),
-        LocalRequest::Allow(user, number, mask) => decide_allow(v, authorities, user, number, mask),
-        LocalRequest::Lend(user, number, mask) => decide_lend(v, authorities, user, number, mask),
+        LocalRequest::Allow(user, number, mask) => decide_allow(v, columns, user, number, mask),
+        LocalRequest::Lend(user, number, mask) => decide_lend(v, columns, user, number, mask),
         LocalRequest::Hand(user, receiver, number) => decide_hand(v, user, receiver, number),
         LocalRequest::Open(session, user, on, at) => decide_open(v, session, user, on, at),
         LocalRequest::Check(session, permission) => decide_check(
             v,
-            authorities,
+            columns,
             session,
             permission,
         ),

@@ -85,20 +85,20 @@ pub struct Extension {
 // Allow and lend, once it is known what they add to.
 fn give(
     v: Slots,
-    authorities: &[u32; 32],
+    columns: &[u32; 64],
     user: u32,
     number: u32,
     mask: u32,
     e: Extension,
 ) -> Decision
-    ensures { λ q. ⌜ ruledOf q ≡ giveDecision v (now (authorities .entry)) (e .given) (e .had) user number mask (withLent (withPermissions (v .capability) (e .permissions)) (e .lent)) ⌝ }
+    ensures { λ q. ⌜ ruledOf q ≡ giveDecision v (now (columns .entry)) (e .given) (e .had) user number mask (withLent (withPermissions (v .capability) (e .permissions)) (e .lent)) ⌝ }
 {
     let c = v.capability;
     let k = give_guards(v.enrolled, v.count, c, e.given, e.had, user, number, mask);
     let mut d = c;
     d.permissions = e.permissions;
     d.lent = e.lent;
-    let value = authority_in(authorities, d);
+    let value = authority_in(columns, d);
     let mut w = v;
     w.capability = d;
     settle(v, k, value, w)
@@ -122,37 +122,37 @@ pub fn decide_hand(v: Slots, user: u32, receiver: u32, number: u32) -> Decision
 // The slot `capability` is the capability named; the slot `role` or `parent` is its origin.
 pub fn decide_allow(
     v: Slots,
-    authorities: &[u32; 32],
+    columns: &[u32; 64],
     user: u32,
     number: u32,
     mask: u32,
 ) -> Decision
-    ensures { λ q. ⌜ ruledOf q ≡ allowDecision v (now (authorities .entry)) user number mask ⌝ }
+    ensures { λ q. ⌜ ruledOf q ≡ allowDecision v (now (columns .entry)) user number mask ⌝ }
 {
     let c = v.capability;
     let o = c.origin;
-    let a = origin_allows(v, authorities, o);
+    let a = origin_allows(v, columns, o);
     let e = Extension {
         given: a.grants,
         had: c.permissions,
         permissions: c.permissions | mask,
         lent: c.lent,
     };
-    give(v, authorities, user, number, mask, e)
+    give(v, columns, user, number, mask, e)
 }
 
 // The same slots, for the roles that the origin may lend.
-pub fn decide_lend(v: Slots, authorities: &[u32; 32], user: u32, number: u32, mask: u32) -> Decision
-    ensures { λ q. ⌜ ruledOf q ≡ lendDecision v (now (authorities .entry)) user number mask ⌝ }
+pub fn decide_lend(v: Slots, columns: &[u32; 64], user: u32, number: u32, mask: u32) -> Decision
+    ensures { λ q. ⌜ ruledOf q ≡ lendDecision v (now (columns .entry)) user number mask ⌝ }
 {
     let c = v.capability;
     let o = c.origin;
-    let a = origin_allows(v, authorities, o);
+    let a = origin_allows(v, columns, o);
     let e = Extension {
         given: a.lendable,
         had: c.lent,
         permissions: c.permissions,
         lent: c.lent | mask,
     };
-    give(v, authorities, user, number, mask, e)
+    give(v, columns, user, number, mask, e)
 }

@@ -2,15 +2,18 @@
 use mathlib.Core.Path.{_≡_, refl, sym, ap, ap₂, _∙_, subst, fun-ext}
 use mathlib.Core.Logic.{_⊎_, inl, inr}
 use mathlib.Core.Bool.{Bool, true, false, cond}
+use mathlib.Core.List.{List}
 use Prim.Native.Nat.{ℕ, zero, suc, _+_, _*_, _%_, _^_, _<_}
 use native.Mathlib.Nat.{not-suc-le-zero, le-of-suc-le-suc, eq-or-lt-of-le}
 use native.Mathlib.Numerals.{add-one}
 use native.Mathlib.Omega.{arith}
-use lib.Bits.{bitOr}
+use lib.Bits.{bitOr, or-lt}
 use lib.Dec.{T, eqb→eq, eqb-refl}
+use lib.ListN.{getD}
+use lib.Pow.{pow-pos}
 use Rattle.masks.specs.Masks.{has, within, joined}
-use Rattle.masks.proofs.Truth.{T→true}
-use Rattle.masks.proofs.MaskLaws.{has-zero, has-single, within-refl, within-trans, within-zero, within-le, within-or, within-or-l, within-or-r, one-shl}
+use Rattle.masks.proofs.Truth.{T→true, or-cases}
+use Rattle.masks.proofs.MaskLaws.{has-or, has-zero, has-single, within-refl, within-trans, within-zero, within-le, within-or, within-or-l, within-or-r, one-shl}
 
 pub joined-least : (f : ℕ → ℕ) (m n x : ℕ) → ((k : ℕ) → k < n → T (has m k) → T (within (f k) x)) → T (within (joined f m n) x)
 unfolding joined
@@ -35,6 +38,28 @@ joined-has f m (suc n) k l h = cases (λ g. joined-has f m n k g h) (eq-or-lt-of
         (subst (λ (x : ℕ). T (within (f x) (bitOr (joined f m n) (f n)))) (sym e) (within-or-r (joined f m n) (f n)))
     cases ih (inr g) = within-trans (f k) (joined f m n) _ (ih g) (within-or-l (joined f m n) (cond (has m n) (f n) 0))
 
+-- an item of the joined masks is one of some item's mask
+pub joined-item : (f : ℕ → ℕ) (m n p : ℕ) → T (has (joined f m n) p) → (k : ℕ) × (k < n) × T (has m k) × T (has (f k) p)
+unfolding joined
+joined-item f m zero p h = absurd (subst T (has-zero p) h)
+joined-item f m (suc n) p h = cases (λ t. joined-item f m n p t) (or-cases (has (joined f m n) p) (has (cond (has m n) (f n) 0) p) (subst T (has-or (joined f m n) _ p) h))
+  where
+    last : (b : Bool) → T (has (cond b (f n) 0) p) → T b × T (has (f n) p)
+    last true t = (tt, t)
+    last false t = absurd (subst T (has-zero p) t)
+
+    cases : (T (has (joined f m n) p) → (k : ℕ) × (k < n) × T (has m k) × T (has (f k) p)) → T (has (joined f m n) p) ⊎ T (has (cond (has m n) (f n) 0) p)
+        → (k : ℕ) × (k < suc n) × T (has m k) × T (has (f k) p)
+    cases ih (inl t) = let q = ih t in (q .0, omega (arith, q .1), q .2, q .3)
+    cases ih (inr t) = let q = last (has m n) t in (n, omega arith, q .0, q .1)
+
+-- where the items of a mask g k carry no more than k does, those that a mask leads to carry no more than the mask
+pub joined-through : (f g : ℕ → ℕ) (m n : ℕ) → ((k j : ℕ) → T (has (g k) j) → T (within (f j) (f k))) → T (within (joined f (joined g m n) n) (joined f m n))
+joined-through f g m n h =
+    joined-least f (joined g m n) n (joined f m n) (λ j l t.
+    let q : (k : ℕ) × (k < n) × T (has m k) × T (has (g k) j) = joined-item g m n j t in
+    within-trans (f j) (f (q .0)) _ (h (q .0) j (q .3)) (joined-has f m n (q .0) (q .1) (q .2)))
+
 pub joined-mono : (f g : ℕ → ℕ) (m m′ n : ℕ) → ((k : ℕ) → T (within (f k) (g k))) → ((k : ℕ) → T (has m k) → T (has m′ k))
     → T (within (joined f m n) (joined g m′ n))
 joined-mono f g m m′ n h w =
@@ -42,6 +67,16 @@ joined-mono f g m m′ n h w =
 
 pub joined-ext : (f g : ℕ → ℕ) (m n : ℕ) → ((k : ℕ) → f k ≡ g k) → joined f m n ≡ joined g m n
 joined-ext f g m n h = ap (λ (e : ℕ → ℕ). joined e m n) (fun-ext h)
+
+-- masks of w bits, joined
+pub joined-small : (w : ℕ) (f : ℕ → ℕ) (m n : ℕ) → ((k : ℕ) → k < n → f k < 2 ^ w) → joined f m n < 2 ^ w
+unfolding joined
+joined-small w f m zero h = pow-pos w
+joined-small w f m (suc n) h = or-lt w (joined f m n) _ (joined-small w f m n (λ k l. h k (omega arith))) (last (has m n))
+  where
+    last : (b : Bool) → cond b (f n) 0 < 2 ^ w
+    last true = h n (omega arith)
+    last false = pow-pos w
 
 -- one item more
 pub joined-more : (f : ℕ → ℕ) (m n x y : ℕ) → x ≡ joined f m n → y ≡ cond (has m n) (f n) 0 → bitOr x y ≡ joined f m (n + 1)
@@ -68,6 +103,8 @@ joined-one f j n g =
       within-le (f j) (joined f (2 ^ j) n) (joined-has f (2 ^ j) n j g (subst T (sym (has-single j j)) (eqb-refl j))),
     )
 
--- by the machine's `1 << j`
-pub joined-single : (f : ℕ → ℕ) (m j : ℕ) → m ≡ 1 * 2 ^ (j % 32) % 2 ^ 32 → f (j % 32) ≡ joined f m 32
-joined-single f m j e = sym (ap (λ (x : ℕ). joined f x 32) (e ∙ one-shl 32 (j % 32) (omega arith)) ∙ joined-one f (j % 32) 32 (omega arith))
+-- by the machine's `1 << j`, in the column that begins at `from`
+pub column-single : (columns : List ℕ) (from m j : ℕ) → m ≡ 1 * 2 ^ (j % 32) % 2 ^ 32 → getD columns (from + j % 32) 0 ≡ joined (λ k. getD columns (from + k) 0) m 32
+column-single columns from m j e =
+    let f : ℕ → ℕ = λ k. getD columns (from + k) 0 in
+    sym (ap (λ (x : ℕ). joined f x 32) (e ∙ one-shl 32 (j % 32) (omega arith)) ∙ joined-one f (j % 32) 32 (omega arith))

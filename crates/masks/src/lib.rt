@@ -1,7 +1,7 @@
 // Masks: bit k stands for item k. This crate knows nothing of the register.
 ghost use mathlib.Core.Path.{_≡_};
 ghost use mathlib.Core.Bool.{cond};
-ghost use Prim.Native.Nat.{_<_, _^_};
+ghost use Prim.Native.Nat.{_+_, _<_, _≤_, _^_};
 ghost use lib.ListN.{getD};
 ghost use Rattle.masks.specs.Masks.{has, within, including, excluding, joined};
 
@@ -71,30 +71,32 @@ fn chosen(p: u32, mask: u32, k: u32) -> u32
     if member(mask as u64, k) { p } else { 0 }
 }
 
-// The masks of the items of a mask, one after the other.
-fn join_each(column: &[u32; 32], mask: u32) -> u32
-    ensures { λ q. ⌜ q ≡ joined (λ k. getD (now (column .entry)) k 0) mask 32 ⌝ }
+// The masks of the items of a mask, one after the other; that of item k is at `from` + k.
+fn join_each(columns: &[u32; 64], from: usize, mask: u32) -> u32
+    requires { ⌜ from ≤ 32 ⌝ }
+    ensures { λ q. ⌜ q ≡ joined (λ k. getD (now (columns .entry)) (from + k) 0) mask 32 ⌝ }
 {
     let mut sum: u32 = 0;
     let mut i: usize = 0;
     while i < 32 {
-        sum = sum | chosen(column[i], mask, i as u32);
+        sum = sum | chosen(columns[from + i], mask, i as u32);
         i = i + 1;
     }
     sum
 }
 
-// The masks of the items of a mask, joined; the column has that of each item. It is quick where there is at most one item, as
-// in the lent roles of every register that keeps the rules.
-pub fn join(column: &[u32; 32], mask: u32) -> u32
-    ensures { λ q. ⌜ q ≡ joined (λ k. getD (now (column .entry)) k 0) mask 32 ⌝ }
+// The masks of the items of a mask, joined; the column that begins at `from` has that of each item. It is quick where there is at
+// most one item, as in the lent roles of every register that keeps the rules.
+pub fn join(columns: &[u32; 64], from: usize, mask: u32) -> u32
+    requires { ⌜ from ≤ 32 ⌝ }
+    ensures { λ q. ⌜ q ≡ joined (λ k. getD (now (columns .entry)) (from + k) 0) mask 32 ⌝ }
 {
     let k = (u32::trailing_zeros(mask) % 32) as usize;
     if mask == 0 {
         0
     } else if mask == 1 << k {
-        column[k]
+        columns[from + k]
     } else {
-        join_each(column, mask)
+        join_each(columns, from, mask)
     }
 }

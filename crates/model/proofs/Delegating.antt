@@ -7,9 +7,8 @@ use lib.Dec.{T, ltb→lt}
 use Rattle.model.specs.declared.Origin.the-variants.{Capability as ofCapability}
 use Rattle.model.specs.declared.Register.{Register}
 use Rattle.masks.specs.Masks.{within, including}
-use Rattle.masks.proofs.MaskLaws.{within-refl, within-or, within-or-l, within-or-mono, within-has, ones-including, including-within}
-use Rattle.masks.proofs.JoinLaws.{joined-mono}
-use Rattle.model.specs.State.{terms, claims, authority, lentAuthority, roleAuthority, originAt, exists}
+use Rattle.masks.proofs.MaskLaws.{within-refl, within-or, within-or-l, within-or-mono, ones-including, including-within}
+use Rattle.model.specs.State.{terms, claims, authority, lentAuthority, originAt, exists}
 use Rattle.model.specs.Invariant.{Below}
 use Rattle.model.specs.Setters.{withPermissions, withLent, withHolders}
 use Rattle.model.specs.Rulings.{capability, termsOf}
@@ -18,6 +17,7 @@ use Rattle.model.proofs.Settling.{Clear, passed}
 use Rattle.model.proofs.Kept.{OwnKept, Kept}
 use Rattle.model.proofs.Frames.{framed, own-framed, grows-refl}
 use Rattle.model.proofs.Keeping.{put-keeps, put-origins}
+use Rattle.model.proofs.Authority.{lend-mono, lent-mono}
 
 pub allow-keeps : (r : Register) (user n mask : ℕ) → Kept r → Clear ((allowRuling r user n mask) .guards) → Kept ((allowRuling r user n mask) .after)
 unfolding allowRuling exists terms authority
@@ -35,13 +35,13 @@ allow-keeps r user n mask k g =
     })
     (record {
       grants = within-or-mono ((capability r n) .permissions) _ _ _ (within-or-l ((capability r n) .permissions) mask) (within-refl (lentAuthority (r .roles) ((capability r n) .lent)));
-      lendable = within-refl ((capability r n) .lent);
+      lendable = within-refl _;
       use-limit = le-refl _;
       revoked = λ t. t;
     })
 
 pub lend-keeps : (r : Register) (user n mask : ℕ) → Kept r → Clear ((lendRuling r user n mask) .guards) → Kept ((lendRuling r user n mask) .after)
-unfolding lendRuling exists terms authority lentAuthority
+unfolding lendRuling exists terms authority
 lend-keeps r user n mask k g =
     let l : n < r .count = ltb→lt _ _ (passed 3 ((lendRuling r user n mask) .guards) g .1 .0) in
     let h : Below (claims (capability r n)) (termsOf r ((capability r n) .origin)) = k .capabilities .capability n l .fits in
@@ -57,8 +57,8 @@ lend-keeps r user n mask k g =
     })
     (record {
       grants = within-or-mono ((capability r n) .permissions) _ ((capability r n) .permissions) _ (within-refl ((capability r n) .permissions))
-          (joined-mono (roleAuthority (r .roles)) (roleAuthority (r .roles)) _ _ 32 (λ j. within-refl (roleAuthority (r .roles) j)) (within-has _ _ w));
-      lendable = w;
+          (lent-mono (r .roles) _ _ w);
+      lendable = lend-mono (r .roles) _ _ w;
       use-limit = le-refl _;
       revoked = λ t. t;
     })

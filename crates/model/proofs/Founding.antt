@@ -1,5 +1,5 @@
 -- Found keeps the shelf rules.
-use mathlib.Core.Path.{_≡_, refl, sym, ap, ap₂, subst}
+use mathlib.Core.Path.{_≡_, refl, sym, ap, ap₂, _∙_, subst}
 use mathlib.Core.Bool.{false, not}
 use Prim.Native.Nat.{ℕ, _^_, _<_}
 use native.Mathlib.Omega.{arith}
@@ -15,12 +15,12 @@ use Rattle.masks.proofs.Truth.{each→, cond-no}
 use Rattle.masks.proofs.Bounded.{set-each}
 use Rattle.masks.proofs.MaskLaws.{within-zero, has-zero}
 use Rattle.masks.proofs.JoinLaws.{joined-ext}
-use Rattle.model.specs.State.{termsWith, terms, authority, lentAuthority, roleAuthority, capabilityAt, blankRole, exists, mayLend}
+use Rattle.model.specs.State.{theRole, partyTerms, termsWith, terms, authority, lentAuthority, roleAuthority, mayLend, roleAt, capabilityAt, blankRole, exists}
 use Rattle.model.specs.Rules.{roleKeeps, roleBlank, roleBlankTests, roleTests}
 use Rattle.model.specs.Rulings.{role}
 use Rattle.model.specs.Administration.{foundRuling, newRole}
 use Rattle.model.proofs.Settling.{Clear, passed}
-use Rattle.model.proofs.Authority.{authority-same}
+use Rattle.model.proofs.Authority.{authority-same, lend-same}
 use Rattle.model.proofs.Kept.{Kept}
 use Rattle.model.proofs.Places.{role←, role-set}
 use Rattle.model.proofs.Parts.{same-sessions, moved-capabilities}
@@ -47,13 +47,15 @@ module _ (r : Register) (j domain hours places devices : ℕ) (k : Kept r) (lj :
   founded-same : (o : Origin) → T (exists (r .roles) (r .count) o) → terms (set (r .roles) j role-new) (r .capabilities) o ≡ terms (r .roles) (r .capabilities) o
   unfolding exists terms authority lentAuthority
   founded-same (ofRole i) h =
-      ap₂
-      (λ (x : Role) (g : ℕ). record { grants = g; lendable = mayLend (r .roles) (2 ^ i); hours = x .hours; places = x .places; devices = x .devices; first = 0; last = 4294967295; use-limit = 65535; creation-limit = 65535; hop-limit = 65535; revoked = false })
-      (getD-set-other (r .roles) j i role-new blankRole (λ e. T-not ((role r j) .founded) new (subst (λ (x : ℕ). T ((role r x) .founded)) e h)))
+      let roles = r .roles in
+      ap₂ (λ (x : Role) (g : ℕ). partyTerms (λ k. g) (λ c. 0) (mayLend (set roles j role-new)) (theRole i x))
+      (getD-set-other roles j i role-new blankRole (λ e. T-not ((role r j) .founded) new (subst (λ (x : ℕ). T ((role r x) .founded)) e h)))
       (same-authority i)
+      ∙ ap (λ (m : ℕ). partyTerms (roleAuthority roles) (λ c. 0) (λ y. m) (theRole i (roleAt roles i))) (lend-same (set roles j role-new) roles (2 ^ i))
   founded-same (ofCapability n) h =
-      ap (λ (x : ℕ). termsWith (bitOr ((capabilityAt (r .capabilities) n) .permissions) x) ((capabilityAt (r .capabilities) n) .lent) (capabilityAt (r .capabilities) n))
+      ap₂ (λ (x m : ℕ). termsWith (bitOr ((capabilityAt (r .capabilities) n) .permissions) x) m (capabilityAt (r .capabilities) n))
       (joined-ext (roleAuthority (set (r .roles) j role-new)) (roleAuthority (r .roles)) ((capabilityAt (r .capabilities) n) .lent) 32 same-authority)
+      (lend-same _ _ ((capabilityAt (r .capabilities) n) .lent))
 
 pub found-keeps : (r : Register) (j domain hours places devices : ℕ) → Kept r → Clear ((foundRuling r j domain hours places devices) .guards) → Kept ((foundRuling r j domain hours places devices) .after)
 unfolding foundRuling

@@ -7,12 +7,13 @@ use lib.Dec.{T}
 use Rattle.masks.specs.Masks.{within}
 use Rattle.masks.proofs.MaskLaws.{within-refl, within-trans, within-has, within-or-mono}
 use Rattle.masks.proofs.JoinLaws.{joined-mono}
+use Rattle.model.proofs.Authority.{lend-same}
 use Rattle.model.specs.declared.Origin.{Origin}
 use Rattle.model.specs.declared.Origin.the-variants.{Role as ofRole, Capability as ofCapability}
 use Rattle.model.specs.declared.Role.{Role}
 use Rattle.model.specs.declared.Capability.{Capability}
 use Rattle.model.specs.declared.Session.{Session}
-use Rattle.model.specs.State.{Terms, terms, claims, authority, lentAuthority, roleAuthority, roleAt, capabilityAt, originAt, exists, admitted}
+use Rattle.model.specs.State.{Terms, terms, claims, authority, lentAuthority, roleAuthority, mayLend, roleAt, capabilityAt, originAt, exists, admitted}
 use Rattle.model.specs.Invariant.{Below}
 use Rattle.model.proofs.Kept.{CapabilityKept, CapabilitiesKept, SessionsKept}
 use Rattle.model.proofs.Places.{moved-sessions}
@@ -59,13 +60,16 @@ module _
   unfolding lentAuthority
   lent-grows m = joined-mono (roleAuthority roles) (roleAuthority roles′) m m 32 more (λ k h. h)
 
+  lends : (m : ℕ) → T (within (mayLend roles m) (mayLend roles′ m))
+  lends m = subst (λ (x : ℕ). T (within (mayLend roles m) x)) (lend-same roles roles′ m) (within-refl (mayLend roles m))
+
   roles-grow : (cs : List Capability) (o : Origin) → Grows (terms roles cs o) (terms roles′ cs o)
   unfolding terms authority
-  roles-grow cs (ofRole k) = record { grants = more k; lendable = within-refl (2 ^ k); use-limit = le-refl _; revoked = λ h. h }
+  roles-grow cs (ofRole k) = record { grants = more k; lendable = lends (2 ^ k); use-limit = le-refl _; revoked = λ h. h }
   roles-grow cs (ofCapability n) =
       record {
         grants = within-or-mono ((capabilityAt cs n) .permissions) _ ((capabilityAt cs n) .permissions) _ (within-refl ((capabilityAt cs n) .permissions)) (lent-grows ((capabilityAt cs n) .lent));
-        lendable = within-refl ((capabilityAt cs n) .lent);
+        lendable = lends ((capabilityAt cs n) .lent);
         use-limit = le-refl _;
         revoked = λ h. h;
       }

@@ -1,24 +1,23 @@
 -- What the other rules imply of a capability: every number is in its range, and its lent roles are founded.
-use mathlib.Core.Path.{_≡_, sym, subst}
+use mathlib.Core.Path.{_≡_, subst}
 use mathlib.Core.List.{List}
 use Prim.Native.Nat.{ℕ, suc, _^_, _≤_, _<_}
 use native.Mathlib.Nat.{le-refl}
 use native.Mathlib.Decide.{decLt}
 use native.Mathlib.Omega.{arith}
-use lib.Dec.{T, ltb→lt, eqb→eq}
+use lib.Dec.{T, ltb→lt}
 use lib.ListN.{length, List·getD-eq-default}
-use lib.Pow.{pow-lt}
-use Rattle.masks.specs.Masks.{has}
-use Rattle.masks.proofs.MaskLaws.{within-le, within-trans, within-has, within-or-l, has-single, has-lt}
+use Rattle.masks.specs.Masks.{has, within}
+use Rattle.masks.proofs.MaskLaws.{within-le, within-trans, within-has, within-or-l, has-lt}
 use Rattle.model.specs.declared.Origin.{Origin}
 use Rattle.model.specs.declared.Origin.the-variants.{Role as ofRole, Capability as ofCapability}
 use Rattle.model.specs.declared.Role.{Role}
 use Rattle.model.specs.declared.Capability.{Capability}
 use Rattle.model.specs.declared.Register.{Register}
-use Rattle.model.specs.State.{terms, authority, roleAuthority, roleAt, blankRole, exists}
+use Rattle.model.specs.State.{terms, authority, roleAuthority, roleLends, mayLend, roleAt, blankRole, exists}
 use Rattle.model.specs.Rulings.{role, capability, termsOf}
 use Rattle.model.specs.Invariant.{OriginInRange, Below, RoleRules, CapabilityRanges}
-use Rattle.model.proofs.Authority.{authority-small}
+use Rattle.model.proofs.Authority.{authority-small, lend-one, lend-small, lend-own, lends-founded}
 use Rattle.model.proofs.Kept.{OwnKept, Kept}
 use Rattle.model.proofs.Places.{role→}
 use Rattle.model.proofs.Tree.{rooted}
@@ -49,10 +48,22 @@ module _ (r : Register) (n : ℕ) (k : Kept r) (l : n < r .count) where
   unfolding end
   end-above = (rooted (r .enrolled) (r .roles) (r .count) (r .capabilities) (k .capabilities) (suc n) n (le-refl (suc n)) l) .3
 
+  end-lt : end < 32
+  end-lt = founded-lt (r .roles) end (k .roles .amount) end-founded
+
   end-rules : RoleRules (r .enrolled) (r .domains) (role r end)
   end-rules =
       role→ (r .enrolled) (r .domains) end (role r end) end-founded
-      (k .roles .role end (founded-lt (r .roles) end (k .roles .amount) end-founded))
+      (k .roles .role end end-lt)
+
+  -- what may be lent are roles
+  lent-lt : (capability r n) .lent < 2 ^ 32
+  unfolding terms
+  lent-lt = omega (arith, within-le ((capability r n) .lent) _ (k .capabilities .capability n l .fits .lendable), small ((capability r n) .origin))
+    where
+      small : (o : Origin) → (termsOf r o) .lendable < 2 ^ 32
+      small (ofRole j) = lend-small (r .roles) (2 ^ j)
+      small (ofCapability m) = lend-small (r .roles) ((capability r m) .lent)
 
   pub in-range : CapabilityRanges (capability r n)
   unfolding terms authority
@@ -71,7 +82,7 @@ module _ (r : Register) (n : ℕ) (k : Kept r) (l : n < r .count) where
                   (within-trans ((capability r n) .permissions) (authority (r .roles) (capability r n)) (roleAuthority (r .roles) end) (within-or-l ((capability r n) .permissions) _) (w .grants)),
               authority-small (r .roles) end (end-rules .permissions),
             );
-        lent = omega (arith, within-le ((capability r n) .lent) (2 ^ end) (w .lendable), pow-lt (founded-lt (r .roles) end (k .roles .amount) end-founded));
+        lent = lent-lt;
         holders = omega (arith, within-le ((capability r n) .holders) (r .enrolled) (o .holders), k .users .small);
         first = omega (arith, o .life, w .last);
         last = omega (arith, w .last);
@@ -86,10 +97,11 @@ module _ (r : Register) (n : ℕ) (k : Kept r) (l : n < r .count) where
         devices = omega (arith, within-le ((capability r n) .devices) ((role r end) .devices) (w .devices), end-rules .devices);
       }
 
-  -- only the role where the lineage ends can be lent
+  -- only what the role where the lineage ends may lend is lent
   pub lent-founded : (j : ℕ) → T (has ((capability r n) .lent) j) → T ((role r j) .founded)
   unfolding terms
   lent-founded j h =
-      subst (λ (i : ℕ). T ((role r i) .founded))
-      (sym (eqb→eq j end (subst T (has-single end j) (within-has ((capability r n) .lent) (2 ^ end) (end-above .lendable) j h))))
-      end-founded
+      let m : ℕ = (capability r n) .lent in
+      let w : T (within m (roleLends (r .roles) end)) =
+      rw (lend-one (r .roles) end end-lt) at (within-trans m (mayLend (r .roles) m) (mayLend (r .roles) (2 ^ end)) (lend-own (r .roles) m lent-lt) (end-above .lendable)) in
+      lends-founded (r .roles) end j (within-has m _ w j h) end-founded

@@ -10,14 +10,14 @@ use Rattle.model.specs.declared.Origin.{Origin}
 use Rattle.model.specs.declared.Origin.the-variants.{Role as ofRole, Capability as ofCapability}
 use Rattle.model.specs.declared.Role.{Role}
 use Rattle.model.specs.declared.Capability.{Capability}
-use Rattle.masks.specs.Masks.{has, within, joined}
-use Rattle.model.specs.State.{party, there, capabilityTerms, Terms, terms, claims, authority, lentAuthority, roleAuthority, roleAt, capabilityAt, blankCapability, originAt, exists}
+use Rattle.masks.specs.Masks.{has, within}
+use Rattle.model.specs.State.{party, there, capabilityTerms, Terms, terms, claims, authority, lentAuthority, mayLend, roleAt, capabilityAt, blankCapability, originAt, exists}
 use Rattle.model.specs.Lineage.{lineage, onward, root, ending, member, inLineage, Descends, here, up, Reaches, last-step, one-step}
 use Rattle.model.specs.Rules.{earlier}
 use Rattle.masks.proofs.Truth.{or-l, or-r, or-cases, T→true}
-use Rattle.masks.proofs.MaskLaws.{within-has, within-refl, within-trans, within-or, within-or-r, has-single}
-use Rattle.masks.proofs.JoinLaws.{joined-least, joined-mono}
+use Rattle.masks.proofs.MaskLaws.{within-refl, within-trans, within-or, within-or-r}
 use Rattle.model.specs.Invariant.{Below}
+use Rattle.model.proofs.Authority.{lend-mono, lent-mono, lent-one, lend-closed, lent-closed}
 use Rattle.model.proofs.Kept.{CapabilitiesKept}
 
 -- an origin that is there
@@ -64,23 +64,28 @@ below-trans {a} {b} {c} g h =
 
 -- what an origin may lend carries no more than the origin
 pub lends-own : (roles : List Role) (cs : List Capability) (o : Origin) → T (within (lentAuthority roles ((terms roles cs o) .lendable)) ((terms roles cs o) .grants))
-unfolding terms lentAuthority authority
-lends-own roles cs (ofRole k) = joined-least (roleAuthority roles) (2 ^ k) 32 (roleAuthority roles k) (λ j l t. only j (eqb→eq j k (subst T (has-single k j) t)))
-  where
-    only : (j : ℕ) → j ≡ k → T (within (roleAuthority roles j) (roleAuthority roles k))
-    only j e = subst (λ (x : ℕ). T (within (roleAuthority roles j) (roleAuthority roles x))) e (within-refl (roleAuthority roles j))
-lends-own roles cs (ofCapability n) = within-or-r ((capabilityAt cs n) .permissions) (lentAuthority roles ((capabilityAt cs n) .lent))
+unfolding terms authority
+lends-own roles cs (ofRole k) = within-trans _ (lentAuthority roles (2 ^ k)) _ (lent-closed roles (2 ^ k)) (lent-one roles k)
+lends-own roles cs (ofCapability n) =
+    let c = capabilityAt cs n in
+    within-trans _ (lentAuthority roles (c .lent)) _ (lent-closed roles (c .lent)) (within-or-r (c .permissions) (lentAuthority roles (c .lent)))
+
+-- and whoever has that may lend no more
+lends-closed : (roles : List Role) (cs : List Capability) (o : Origin) → T (within (mayLend roles ((terms roles cs o) .lendable)) ((terms roles cs o) .lendable))
+unfolding terms
+lends-closed roles cs (ofRole k) = lend-closed roles (2 ^ k)
+lends-closed roles cs (ofCapability n) = lend-closed roles ((capabilityAt cs n) .lent)
 
 -- claims within terms: so is the authority
 pub claims-terms : (roles : List Role) (cs : List Capability) (o : Origin) (c : Capability)
     → Below (claims c) (terms roles cs o) → Below (capabilityTerms roles c) (terms roles cs o)
-unfolding authority lentAuthority
+unfolding authority
 claims-terms roles cs o c h =
     record {
       grants =
           within-or (c .permissions) (lentAuthority roles (c .lent)) _ (h .grants)
-          (within-trans _ (lentAuthority roles ((terms roles cs o) .lendable)) _ lent-mono (lends-own roles cs o));
-      lendable = h .lendable;
+          (within-trans _ (lentAuthority roles ((terms roles cs o) .lendable)) _ (lent-mono roles _ _ (h .lendable)) (lends-own roles cs o));
+      lendable = within-trans _ (mayLend roles ((terms roles cs o) .lendable)) _ (lend-mono roles _ _ (h .lendable)) (lends-closed roles cs o);
       hours = h .hours;
       places = h .places;
       devices = h .devices;
@@ -91,12 +96,6 @@ claims-terms roles cs o c h =
       hop-limit = h .hop-limit;
       revoked = h .revoked;
     }
-  where
-    lent-mono : T (within (lentAuthority roles (c .lent)) (lentAuthority roles ((terms roles cs o) .lendable)))
-    lent-mono = joined-mono′ (roleAuthority roles) _ _ (h .lendable)
-      where
-        joined-mono′ : (f : ℕ → ℕ) (m m′ : ℕ) → T (within m m′) → T (within (joined f m 32) (joined f m′ 32))
-        joined-mono′ f m m′ w = joined-mono f f m m′ 32 (λ k. within-refl (f k)) (within-has m m′ w)
 
 -- ---- along the lineage
 

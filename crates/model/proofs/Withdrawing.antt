@@ -1,7 +1,7 @@
 -- Withdraw keeps the rules of the passes: one rising sweep.
 use mathlib.Core.Path.{_≡_, refl, sym, ap, _∙_, subst}
 use mathlib.Core.List.{List}
-use Prim.Native.Nat.{ℕ, _≤_, _<_}
+use Prim.Native.Nat.{ℕ, _^_, _≤_, _<_}
 use native.Mathlib.Omega.{arith}
 use lib.Dec.{T}
 use lib.ListN.{length}
@@ -11,11 +11,12 @@ use Rattle.model.specs.declared.Origin.the-variants.{Role as ofRole, Cap
 use Rattle.model.specs.declared.Role.{Role}
 use Rattle.model.specs.declared.Capability.{Capability}
 use Rattle.masks.specs.Masks.{within}
-use Rattle.model.specs.State.{terms, claims, authority, roleAuthority, roleAt, capabilityAt, originAt, blankCapability}
+use Rattle.model.specs.State.{terms, claims, authority, roleAuthority, mayLend, roleAt, capabilityAt, originAt, blankCapability}
 use Rattle.model.specs.Setters.{withPermissions}
 use Rattle.masks.specs.Tests.{rising}
 use Rattle.model.specs.Administration.{cutPermissions}
 use Rattle.masks.proofs.MaskLaws.{within-and-r}
+use Rattle.model.proofs.Authority.{lend-same}
 use Rattle.model.specs.Invariant.{Below}
 use Rattle.model.proofs.Kept.{CapabilitiesKept}
 use Rattle.model.proofs.Tree.{falls}
@@ -54,17 +55,21 @@ module _
   pub cut-frames : (i : ℕ) → Frame (capabilityAt cs i) (capabilityAt cut-after i)
   cut-frames = frames-beyond cs cut-after (kept .amount) cut-length (λ i l. framed (capabilityAt cs i) (cut-at i l))
 
+  -- what may be lent is as it was
+  lends-still : (i m m′ : ℕ) → m′ ≡ m → T (within ((capabilityAt cs i) .lent) (mayLend roles m)) → T (within ((capabilityAt cs i) .lent) (mayLend roles′ m′))
+  lends-still i m m′ e = subst (λ (x : ℕ). T (within ((capabilityAt cs i) .lent) x)) (lend-same roles roles′ m ∙ ap (mayLend roles′) (sym e))
+
   cut-claims : (i : ℕ) → i < count → (o : Origin) → originAt cs i ≡ o → Below (claims (capabilityAt cs i)) (terms roles cs o)
       → Claims (withPermissions (capabilityAt cs i) (bitAnd ((capabilityAt cs i) .permissions) ((terms roles′ cut-after o) .grants))) (terms roles′ cut-after o)
   unfolding terms
   cut-claims i l (ofRole k) e h =
-      record { grants = within-and-r ((capabilityAt cs i) .permissions) (roleAuthority roles′ k); lendable = h .lendable; use-limit = h .use-limit; revoked = λ t. absurd t }
+      record { grants = within-and-r ((capabilityAt cs i) .permissions) (roleAuthority roles′ k); lendable = lends-still i (2 ^ k) (2 ^ k) refl (h .lendable); use-limit = h .use-limit; revoked = λ t. absurd t }
   cut-claims i l (ofCapability k) e h =
       let at : capabilityAt cut-after k ≡ withPermissions (capabilityAt cs k) (bitAnd ((capabilityAt cs k) .permissions) ((terms roles′ (rising blankCapability (cutPermissions roles′) k cs) (originAt cs k)) .grants)) =
       cut-at k (omega (arith, falls enrolled roles count cs kept i k l e, kept .enough)) in
       record {
         grants = within-and-r ((capabilityAt cs i) .permissions) (authority roles′ (capabilityAt cut-after k));
-        lendable = subst (λ (x : ℕ). T (within ((capabilityAt cs i) .lent) x)) (sym (ap (λ (c : Capability). c .lent) at)) (h .lendable);
+        lendable = lends-still i _ _ (ap (λ (c : Capability). c .lent) at) (h .lendable);
         use-limit = omega (arith, h .use-limit, ap (λ (c : Capability). c .«use_limit») at);
         revoked = λ t. h .revoked (subst T (ap (λ (c : Capability). c .revoked) at) t);
       }

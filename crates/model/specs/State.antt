@@ -190,9 +190,13 @@ termsWith p m c =
       revoked = c .revoked;
     }
 
--- the roles that whoever has the roles m may lend: just these
-abbrev pub mayLend : List Role → ℕ → ℕ
-mayLend roles m = m
+-- the roles that role k may lend: just itself
+unfoldable pub roleLends : List Role → ℕ → ℕ
+roleLends roles k = 2 ^ k
+
+-- the roles that whoever has the roles m may lend: what each of them may, joined
+unfoldable pub mayLend : List Role → ℕ → ℕ
+mayLend roles m = joined (roleLends roles) m 32
 
 -- "An origin may give the permissions of its authority, and the roles lent to it or, where it is a role, just itself."
 -- A role's life "is 0 to 4,294,967,295", its limits "are 65,535"; "a role never is" revoked

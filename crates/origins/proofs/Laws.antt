@@ -1,13 +1,13 @@
--- What is read from elements, and from the column of the roles' authorities, is the register's.
+-- What is read from elements, and from the columns of the roles, is the register's.
 use mathlib.Core.Path.{_≡_, refl, sym, ap, _∙_, subst}
 use mathlib.Core.List.{List}
-use Prim.Native.Nat.{ℕ, _%_, _<_}
+use Prim.Native.Nat.{ℕ, _%_, _^_, _<_}
 use native.Mathlib.Nat.{mod-eq-of-lt}
 use borrow.Author.Tests.{lt-ltb}
 use lib.Bits.{bitOr}
 use lib.Dec.{T, ltb, ltb→lt}
-use lib.ListN.{getD}
 use Rattle.masks.proofs.JoinLaws.{joined-same}
+use Rattle.model.proofs.Authority.{lend-one}
 use Rattle.model.specs.declared.Origin.{Origin}
 use Rattle.model.specs.declared.Origin.the-variants.{Role as ofRole, Capability as ofCapability}
 use Rattle.model.specs.declared.Named.{Named}
@@ -15,13 +15,13 @@ use Rattle.model.specs.declared.Named.the-variants.{Role as nameRole, Capabilit
 use Rattle.model.specs.declared.Role.{Role}
 use Rattle.model.specs.declared.Capability.{Capability}
 use Rattle.model.specs.declared.Context.{Context}
-use Rattle.model.specs.State.{party, terms, authority, lentAuthority, roleAuthority, admitted, roleAt, capabilityAt}
+use Rattle.model.specs.State.{party, terms, authority, lentAuthority, roleAuthority, roleLends, mayLend, admitted, roleAt, capabilityAt}
 use Rattle.model.specs.Rules.{isOrigin}
 use Rattle.model.specs.Requests.{namedOrigin}
 use Rattle.model.specs.Sweeps.{originRevoked, originLimit}
-use Rattle.origins.specs.Authority.{roleGrants, authorityIn, grantedBy}
+use Rattle.origins.specs.Authority.{item, Columns, roleItem, joinedItems, authorityIn}
 use Rattle.origins.specs.Numbers.{roleHeld, capabilityHeld, Placed, namedIn}
-use Rattle.origins.specs.Terms.{partyIn, slotTerms, bareIn}
+use Rattle.origins.specs.Terms.{partyIn, slotTerms, columnTerms, bareIn}
 
 -- ---- a number in its range
 
@@ -37,40 +37,44 @@ pub held-placed : (o : Origin) (i j : ℕ) → i ≡ roleHeld o → j ≡ capabi
 held-placed (ofRole k) i j e f l = ap (λ (n : ℕ). n % 32) e
 held-placed (ofCapability n) i j e f l = f ∙ sym (mod-eq-of-lt (subst (λ (m : ℕ). m < 256) f l))
 
--- ---- the column
+-- ---- the columns
 
--- item k is the authority of role k
-abbrev pub Column : List ℕ → List Role → Type 0
-Column column roles = (k : ℕ) → k < 32 → getD column k 0 ≡ roleAuthority roles k
+module _ (columns : List ℕ) (roles : List Role) (kept : Columns columns roles) where
+  pub role-granted : (k : ℕ) → k < 32 → roleItem columns 0 k ≡ roleAuthority roles k
+  unfolding roleItem
+  role-granted k l = rw (lt-ltb k 32 l) (kept .grants k l)
 
-module _ (column : List ℕ) (roles : List Role) (kept : Column column roles) where
-  pub role-granted : (k : ℕ) → k < 32 → roleGrants column k ≡ roleAuthority roles k
-  unfolding roleGrants
-  role-granted k l = rw (lt-ltb k 32 l) (kept k l)
+  role-lends : (k : ℕ) → k < 32 → roleItem columns 32 k ≡ mayLend roles (2 ^ k)
+  unfolding roleItem
+  role-lends k l = rw (lt-ltb k 32 l) (kept .lends k l ∙ sym (lend-one roles k l))
 
-  pub authority-read : (c : Capability) → authorityIn column c ≡ authority roles c
-  unfolding authorityIn authority lentAuthority
-  authority-read c = ap (bitOr (c .permissions)) (joined-same (λ k. getD column k 0) (roleAuthority roles) (c .lent) 32 kept)
+  lends-read : (m : ℕ) → joinedItems columns 32 m ≡ mayLend roles m
+  unfolding joinedItems mayLend
+  lends-read m = joined-same (item columns 32) (roleLends roles) m 32 (kept .lends)
+
+  pub authority-read : (c : Capability) → authorityIn columns c ≡ authority roles c
+  unfolding authorityIn joinedItems authority lentAuthority
+  authority-read c = ap (bitOr (c .permissions)) (joined-same (item columns 0) (roleAuthority roles) (c .lent) 32 (kept .grants))
 
   -- the terms read from the places of an origin are its terms
   pub placed-terms : (cs : List Capability) (o : Origin) (i j : ℕ) → T (isOrigin o) → Placed o i j
-      → slotTerms o (roleAt roles i) (capabilityAt cs j) (grantedBy column o (capabilityAt cs j)) ≡ terms roles cs o
+      → columnTerms columns o (roleAt roles i) (capabilityAt cs j) ≡ terms roles cs o
   unfolding slotTerms terms
-  placed-terms cs (ofRole k) i j l e = rw (e, in-range k 32 l, role-granted k (ltb→lt k 32 l))
-  placed-terms cs (ofCapability n) i j l e = rw (e, in-range n 256 l, authority-read (capabilityAt cs n))
+  placed-terms cs (ofRole k) i j l e = rw (e, in-range k 32 l, role-granted k (ltb→lt k 32 l), role-lends k (ltb→lt k 32 l))
+  placed-terms cs (ofCapability n) i j l e = rw (e, in-range n 256 l, authority-read (capabilityAt cs n), lends-read ((capabilityAt cs n) .lent))
 
--- ---- what needs no authority
+-- ---- what needs no column
 
 pub placed-party : (roles : List Role) (cs : List Capability) (o : Origin) (i j : ℕ) → T (isOrigin o) → Placed o i j
     → partyIn o (roleAt roles i) (capabilityAt cs j) ≡ party roles cs o
 placed-party roles cs (ofRole k) i j l e = rw (e, in-range k 32 l)
 placed-party roles cs (ofCapability n) i j l e = rw (e, in-range n 256 l)
 
-pub placed-admits : (roles : List Role) (cs : List Capability) (o : Origin) (i j grants : ℕ) (at : Context) → T (isOrigin o) → Placed o i j
-    → admitted (slotTerms o (roleAt roles i) (capabilityAt cs j) grants) at ≡ admitted (terms roles cs o) at
+pub placed-admits : (roles : List Role) (cs : List Capability) (o : Origin) (i j grants lendable : ℕ) (at : Context) → T (isOrigin o) → Placed o i j
+    → admitted (slotTerms o (roleAt roles i) (capabilityAt cs j) grants lendable) at ≡ admitted (terms roles cs o) at
 unfolding admitted slotTerms terms
-placed-admits roles cs (ofRole k) i j grants at l e = rw (e, in-range k 32 l)
-placed-admits roles cs (ofCapability n) i j grants at l e = rw (e, in-range n 256 l)
+placed-admits roles cs (ofRole k) i j grants lendable at l e = rw (e, in-range k 32 l)
+placed-admits roles cs (ofCapability n) i j grants lendable at l e = rw (e, in-range n 256 l)
 
 -- the limit and the mark of an origin, read from its place
 pub bare-read : (cs : List Capability) (o : Origin) (j : ℕ) → j ≡ capabilityHeld o

@@ -1,10 +1,12 @@
 -- What stands at an origin and what it allows, from the elements read.
+use mathlib.Core.List.{List}
 use Prim.Native.Nat.{ℕ, _%_}
 use Rattle.model.specs.declared.Origin.{Origin}
 use Rattle.model.specs.declared.Origin.the-variants.{Role as ofRole, Capability as ofCapability}
 use Rattle.model.specs.declared.Role.{Role}
 use Rattle.model.specs.declared.Capability.{Capability}
 use Rattle.model.specs.State.{blankRole, Party, theRole, theCapability, Terms, partyTerms}
+use Rattle.origins.specs.Authority.{grantedBy, lendableBy}
 use Rattle.origins.specs.declared.terms.Allowance.{Allowance}
 
 -- the terms that the program's record stands for
@@ -29,10 +31,14 @@ abbrev pub partyIn : Origin → Role → Capability → Party
 partyIn (ofRole k) x c = theRole (k % 32) x
 partyIn (ofCapability n) x c = theCapability n c
 
--- its terms, where its authority is `grants`
-unfoldable pub slotTerms : Origin → Role → Capability → ℕ → Terms
-slotTerms o x c grants = partyTerms (λ k. grants) (λ d. grants) (λ m. m) (partyIn o x c)
+-- its terms, where it grants `grants` and may lend `lendable`
+unfoldable pub slotTerms : Origin → Role → Capability → (grants lendable : ℕ) → Terms
+slotTerms o x c grants lendable = partyTerms (λ k. grants) (λ d. grants) (λ m. lendable) (partyIn o x c)
 
--- the same as far as they need neither the role nor the authority
+-- the same by the columns of the roles
+abbrev pub columnTerms : List ℕ → Origin → Role → Capability → Terms
+columnTerms columns o x c = slotTerms o x c (grantedBy columns o c) (lendableBy columns o c)
+
+-- the same as far as they need neither the role nor a column
 abbrev pub bareIn : Origin → Capability → Terms
-bareIn o c = slotTerms o blankRole c 0
+bareIn o c = slotTerms o blankRole c 0 0

@@ -1,48 +1,59 @@
-// What origins grant, by the column of the roles' authorities, which is made in one place.
+// What origins grant and may lend, by the columns of the roles, which are made in one place.
 ghost use mathlib.Core.Path.{_≡_};
-ghost use Prim.Native.Nat.{ℕ, _<_};
-ghost use lib.ListN.{getD};
-ghost use Rattle.model.specs.State.{roleAuthority};
-ghost use Rattle.origins.specs.Authority.{roleGrants, authorityIn, grantedBy};
+ghost use Prim.Native.Nat.{_≤_};
+ghost use Rattle.origins.specs.Authority.{Columns, roleItem, authorityIn, grantedBy, lendableBy};
+use masks::bit32;
 use masks::join;
 use model::Capability;
 use model::Origin;
 use model::Role;
 
-// The authority of each role: a column, to be lent where the register would be copied.
-pub fn authorities_of(roles: [Role; 32]) -> [u32; 32]
-    ensures { λ q. ⌜ ((k : ℕ) → k < 32 → getD q k 0 ≡ roleAuthority roles k) ⌝ }
+// The columns of the roles, to be lent where the register would be copied: the authority of each role, then what each may lend.
+pub fn columns_of(roles: [Role; 32]) -> [u32; 64]
+    ensures { λ q. ⌜ Columns q roles ⌝ }
 {
-    let mut column = [0u32; 32];
+    let mut columns = [0u32; 64];
     let mut i: usize = 0;
     while i < 32 {
         let x = roles[i];
-        column[i] = x.permissions;
+        columns[i] = x.permissions;
+        columns[32 + i] = bit32(i as u32);
         i = i + 1;
     }
-    column
+    columns
 }
 
-// What role k grants; there is none past 31.
-fn role_grants(column: &[u32; 32], k: u8) -> u32
-    ensures { λ q. ⌜ q ≡ roleGrants (now (column .entry)) k ⌝ }
+// The item of role k in the column that begins at `from`; there is none past 31.
+fn role_item(columns: &[u32; 64], from: usize, k: u8) -> u32
+    requires { ⌜ from ≤ 32 ⌝ }
+    ensures { λ q. ⌜ q ≡ roleItem (now (columns .entry)) from k ⌝ }
 {
-    if k < 32 { column[k as usize] } else { 0 }
+    if k < 32 { columns[from + k as usize] } else { 0 }
 }
 
 // The authority of a capability: its own permissions and those of its lent roles.
-pub fn authority_in(column: &[u32; 32], c: Capability) -> u32
-    ensures { λ q. ⌜ q ≡ authorityIn (now (column .entry)) c ⌝ }
+pub fn authority_in(columns: &[u32; 64], c: Capability) -> u32
+    ensures { λ q. ⌜ q ≡ authorityIn (now (columns .entry)) c ⌝ }
 {
-    c.permissions | join(column, c.lent)
+    c.permissions | join(columns, 0, c.lent)
 }
 
 // The authority of the origin o, which is the capability c where it is one.
-pub fn granted_by(column: &[u32; 32], o: Origin, c: Capability) -> u32
-    ensures { λ q. ⌜ q ≡ grantedBy (now (column .entry)) o c ⌝ }
+pub fn granted_by(columns: &[u32; 64], o: Origin, c: Capability) -> u32
+    ensures { λ q. ⌜ q ≡ grantedBy (now (columns .entry)) o c ⌝ }
 {
     match o {
-        Origin::Role(k) => role_grants(column, k),
-        Origin::Capability(_) => authority_in(column, c),
+        Origin::Role(k) => role_item(columns, 0, k),
+        Origin::Capability(_) => authority_in(columns, c),
+    }
+}
+
+// The roles that the origin o may lend.
+pub fn lendable_by(columns: &[u32; 64], o: Origin, c: Capability) -> u32
+    ensures { λ q. ⌜ q ≡ lendableBy (now (columns .entry)) o c ⌝ }
+{
+    match o {
+        Origin::Role(k) => role_item(columns, 32, k),
+        Origin::Capability(_) => join(columns, 32, c.lent),
     }
 }

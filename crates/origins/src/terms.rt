@@ -1,8 +1,9 @@
 // What an origin allows, and the contexts that it admits.
 ghost use mathlib.Core.Path.{_≡_};
 ghost use Rattle.model.specs.State.{inContext, claims, below, admitted};
-ghost use Rattle.origins.specs.Terms.{termsIn, slotTerms, bareIn};
-use masks::bit32;
+ghost use Rattle.origins.specs.Terms.{termsIn, slotTerms, columnTerms, bareIn};
+use crate::authority::granted_by;
+use crate::authority::lendable_by;
 use masks::member;
 use model::Capability;
 use model::Context;
@@ -24,14 +25,14 @@ pub struct Allowance {
     pub revoked: bool,
 }
 
-// The terms of a role x, or of a capability c, whose authority is `grants`.
-pub fn allowance_of(o: Origin, x: Role, c: Capability, grants: u32) -> Allowance
-    ensures { λ q. ⌜ termsIn q ≡ slotTerms o x c grants ⌝ }
+// The terms of a role x, or of a capability c, that grants `grants` and may lend `lendable`.
+pub fn allowance_of(o: Origin, x: Role, c: Capability, grants: u32, lendable: u32) -> Allowance
+    ensures { λ q. ⌜ termsIn q ≡ slotTerms o x c grants lendable ⌝ }
 {
     match o {
         Origin::Role(k) => Allowance {
             grants: grants,
-            lendable: bit32(k as u32 % 32),
+            lendable: lendable,
             hours: x.hours,
             places: x.places,
             devices: x.devices,
@@ -44,7 +45,7 @@ pub fn allowance_of(o: Origin, x: Role, c: Capability, grants: u32) -> Allowance
         },
         Origin::Capability(n) => Allowance {
             grants: grants,
-            lendable: c.lent,
+            lendable: lendable,
             hours: c.hours,
             places: c.places,
             devices: c.devices,
@@ -58,12 +59,21 @@ pub fn allowance_of(o: Origin, x: Role, c: Capability, grants: u32) -> Allowance
     }
 }
 
-// The same as far as it needs neither the role nor the authority: life, limits and the revoked mark.
+// The same by the columns of the roles.
+pub fn allowance_in(columns: &[u32; 64], o: Origin, x: Role, c: Capability) -> Allowance
+    ensures { λ q. ⌜ termsIn q ≡ columnTerms (now (columns .entry)) o x c ⌝ }
+{
+    let grants = granted_by(columns, o, c);
+    let lendable = lendable_by(columns, o, c);
+    allowance_of(o, x, c, grants, lendable)
+}
+
+// The same as far as it needs neither the role nor a column: life, limits and the revoked mark.
 pub fn bare_allowance(o: Origin, c: Capability) -> Allowance
     ensures { λ q. ⌜ termsIn q ≡ bareIn o c ⌝ }
 {
     let x = blank_role();
-    allowance_of(o, x, c, 0)
+    allowance_of(o, x, c, 0, 0)
 }
 
 // Hour, place and device are in their ranges.

@@ -13,7 +13,7 @@ use dispatch::order_of;
 use model::Answer;
 use model::Refusal;
 use model::Register;
-use origins::authority::authorities_of;
+use origins::authority::columns_of;
 use origins::numbers::capability_held;
 use origins::numbers::role_held;
 use places::capability_at;
@@ -40,7 +40,7 @@ fn play(start: Register, input: &[u8], out: &mut [u8]) -> usize
 {
     let formed = well_formed(start);
     let roles = start.roles;
-    let mut authorities = authorities_of(roles);
+    let mut columns = columns_of(roles);
     let mut r = start;
     let mut at: usize = 0;
     let mut to: usize = 0;
@@ -61,7 +61,7 @@ fn play(start: Register, input: &[u8], out: &mut [u8]) -> usize
                 let on = s.on;
                 let x = r.roles[(role_held(on) % 32) as usize];
                 let c = r.capabilities[capability_held(on) as usize];
-                let answer = answer_check(r.clock, s, x, c, &authorities, number, permission);
+                let answer = answer_check(r.clock, s, x, c, &columns, number, permission);
                 let n = print(&mut out[to..], answer);
                 to += n;
             }
@@ -79,7 +79,7 @@ fn play(start: Register, input: &[u8], out: &mut [u8]) -> usize
                         to += n;
                         let next = reply.register;
                         let roles = next.roles;
-                        authorities = authorities_of(roles);
+                        columns = columns_of(roles);
                         r = next;
                     }
                 }
@@ -96,7 +96,7 @@ fn play(start: Register, input: &[u8], out: &mut [u8]) -> usize
                 let p = r.capabilities[pn];
                 let un = user_at(m);
                 let v = seen(r.clock, r.enrolled, r.count, r.domains[un], x, p, c, s);
-                let d = decide(v, &authorities, q);
+                let d = decide(v, &columns, q);
                 let answer = d.answer;
                 let n = print(&mut out[to..], answer);
                 to += n;
@@ -115,7 +115,7 @@ fn play(start: Register, input: &[u8], out: &mut [u8]) -> usize
                 r.sessions[sn] = x;
                 if changes_role(m) {
                     let roles = r.roles;
-                    authorities = authorities_of(roles);
+                    columns = columns_of(roles);
                 }
             }
         }

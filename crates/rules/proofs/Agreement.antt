@@ -19,10 +19,10 @@ use Rattle.model.specs.declared.Register.{Register}
 use Rattle.model.specs.State.{party, there, Terms, terms, claims, below, exists, openedIn, admitted, inContext, roleAt, capabilityAt, originAt, sessionAt, blankRole, blankCapability, blankSession}
 use Rattle.model.specs.Lineage.{children}
 use Rattle.model.specs.Rules.{isOrigin, isUser, isDomain, bits, userKeeps, roleBlank, sameDomain, roleKeeps, capabilityBlank, rangeTests, inRange, allFounded, earlier, ownKeeps, capabilityKeeps, placeKeeps, sessionBlank, sessionKeeps, wellFormed}
-use Rattle.origins.specs.Authority.{grantedBy}
+use Rattle.origins.specs.Authority.{Columns}
 use Rattle.origins.specs.Numbers.{Placed}
-use Rattle.origins.specs.Terms.{partyIn, slotTerms}
-use Rattle.origins.proofs.Laws.{Column, placed-party, placed-terms, placed-admits}
+use Rattle.origins.specs.Terms.{partyIn, slotTerms, columnTerms}
+use Rattle.origins.proofs.Laws.{placed-party, placed-terms, placed-admits}
 use Rattle.entries.specs.Limits.{roleKeepsWith, placeWith, sessionKeepsWith}
 use Rattle.rules.specs.Columns.{masked, isFounded, inDomain, BlankFrom}
 use Rattle.rules.proofs.Laws.{all-below, all-rest, each-under, within-masked}
@@ -69,9 +69,9 @@ role-agrees enrolled domains users k x column =
 pub place-agrees : (enrolled : ℕ) (roles : List Role) (count : ℕ) (cs : List Capability) (n i j founded made : ℕ) (column : List ℕ) (known : Bool) (u : Terms)
     → Placed (originAt cs n) i j
     → founded ≡ masked (isFounded roles) 32
-    → Column column roles
+    → Columns column roles
     → known ≡ there count (partyIn (originAt cs n) (roleAt roles i) (capabilityAt cs j))
-    → u ≡ slotTerms (originAt cs n) (roleAt roles i) (capabilityAt cs j) (grantedBy column (originAt cs n) (capabilityAt cs j))
+    → u ≡ columnTerms column (originAt cs n) (roleAt roles i) (capabilityAt cs j)
     → made ≡ children count cs n
     → placeWith enrolled founded count n known u made (capabilityAt cs n) ≡ placeKeeps enrolled roles count cs n (capabilityAt cs n)
 unfolding placeWith placeKeeps capabilityKeeps inRange allFounded
@@ -100,13 +100,13 @@ place-agrees enrolled roles count cs n i j founded made column known u placed at
 
 -- ---- a session
 
-pub session-agrees : (enrolled : ℕ) (roles : List Role) (count : ℕ) (cs : List Capability) (n i j grants : ℕ) (s : Session) (known : Bool) (u : Terms)
+pub session-agrees : (enrolled : ℕ) (roles : List Role) (count : ℕ) (cs : List Capability) (n i j grants lendable : ℕ) (s : Session) (known : Bool) (u : Terms)
     → Placed (s .on) i j
     → known ≡ there count (partyIn (s .on) (roleAt roles i) (capabilityAt cs j))
-    → u ≡ slotTerms (s .on) (roleAt roles i) (capabilityAt cs j) grants
+    → u ≡ slotTerms (s .on) (roleAt roles i) (capabilityAt cs j) grants lendable
     → sessionKeepsWith enrolled known u s ≡ sessionKeeps enrolled roles count cs n s
 unfolding sessionKeepsWith sessionKeeps
-session-agrees enrolled roles count cs n i j grants s known u placed at-known at-u =
+session-agrees enrolled roles count cs n i j grants lendable s known u placed at-known at-u =
     ap (λ (b : Bool). cond (s .active) b (sessionBlank s)) (each-under before (rest known u) (rest (exists roles count (s .on)) (terms roles cs (s .on))) agree)
   where
     before : List Bool
@@ -119,7 +119,7 @@ session-agrees enrolled roles count cs n i j grants s known u placed at-known at
     agree h =
         ap₂ (λ (a b : Bool). each (a ∷ b ∷ []))
         (at-known ∙ there-exists roles cs count (s .on) i j (h .1 .0) placed)
-        (ap (λ (t : Terms). admitted t (openedIn s)) at-u ∙ placed-admits roles cs (s .on) _ _ grants (openedIn s) (h .1 .0) placed)
+        (ap (λ (t : Terms). admitted t (openedIn s)) at-u ∙ placed-admits roles cs (s .on) _ _ grants lendable (openedIn s) (h .1 .0) placed)
 
 -- ---- the register
 

@@ -9,12 +9,11 @@ use crate::columns::founded_roles;
 use crate::columns::places;
 use entries::capability::keeps_place;
 use model::Register;
-use origins::authority::authorities_of;
-use origins::authority::granted_by;
+use origins::authority::columns_of;
 use origins::numbers::capability_held;
 use origins::numbers::role_held;
 use origins::standing::present_in;
-use origins::terms::allowance_of;
+use origins::terms::allowance_in;
 
 // The rules of the places below the bound, up to the first that breaks them. How many were created from each capability is counted
 // first; a function of its own for that would copy the register.
@@ -23,7 +22,7 @@ pub fn capabilities_keep(r: Register, bound: usize) -> bool
     ensures { λ q. ⌜ (r .count ≤ 256 → q ≡ allBelow bound (λ n. placeKeeps (r .enrolled) (r .roles) (r .count) (r .capabilities) n (capabilityAt (r .capabilities) n))) ⌝ }
 {
     let roles = r.roles;
-    let authorities = authorities_of(roles);
+    let columns = columns_of(roles);
     let founded = founded_roles(roles);
     let created = places(r.count);
     let mut table = [0u16; 256];
@@ -42,8 +41,7 @@ pub fn capabilities_keep(r: Register, bound: usize) -> bool
         let o = c.origin;
         let role = roles[(role_held(o) % 32) as usize];
         let p = r.capabilities[capability_held(o) as usize];
-        let grants = granted_by(&authorities, o, p);
-        let u = allowance_of(o, role, p, grants);
+        let u = allowance_in(&columns, o, role, p);
         let there = present_in(o, role, count);
         let kept = keeps_place(enrolled, founded, count, i, there, u, table[i], c);
         if !kept {

@@ -22,7 +22,7 @@ pub fn sessions_keep(r: Register) -> bool
         let o = s.on;
         let role = r.roles[(role_held(o) % 32) as usize];
         let p = r.capabilities[capability_held(o) as usize];
-        let u = allowance_of(o, role, p, 0);
+        let u = allowance_of(o, role, p, 0, 0);
         let there = present_in(o, role, count);
         ok = ok & session_keeps(enrolled, there, u, s);
         i = i + 1;

@@ -13,6 +13,7 @@ use Rattle.model.specs.declared.Origin.the-variants.{Role as ofRole, Capability
 use Rattle.model.specs.declared.Named.{Named}
 use Rattle.model.specs.declared.Context.{Context}
 use Rattle.model.specs.declared.Capability.{Capability}
+use Rattle.model.specs.declared.Role.{Role}
 use Rattle.model.specs.declared.Session.{Session}
 use Rattle.model.specs.declared.Register.{Register}
 use Rattle.model.specs.declared.LocalRequest.the-variants.{Open}
@@ -28,10 +29,10 @@ use Rattle.model.proofs.Rules.{formed→}
 use Rattle.model.proofs.RuleFacts.{origin←}
 use Rattle.model.proofs.Settling.{passed, settle-ranged, settle-same}
 use Rattle.slots.specs.Slots.{Places, look, lifted, withSessionSlots}
-use Rattle.origins.specs.Authority.{grantedBy}
+use Rattle.origins.specs.Authority.{Columns, grantedBy, lendableBy}
 use Rattle.origins.specs.Numbers.{roleHeld, capabilityHeld}
-use Rattle.origins.specs.Terms.{slotTerms}
-use Rattle.origins.proofs.Laws.{in-range, held-placed, Column, placed-party, placed-terms}
+use Rattle.origins.specs.Terms.{partyIn, slotTerms}
+use Rattle.origins.proofs.Laws.{in-range, held-placed, placed-party, placed-terms}
 use Rattle.slots.specs.Terms.{OnPlaced, usedIn}
 use Rattle.slots.proofs.SlotLaws.{put-same, put-session, ranged-commit}
 use Rattle.sessions.specs.Sessions.{closeDecision, permitsIn, checkAnswer, checkDecision, openingOn, openDecision}
@@ -49,23 +50,33 @@ close-commit r p s e =
 
 -- ---- check
 
+-- what may be lent is not read
+unlent : (tick : ℕ) (y : Party) (o : Origin) (x : Role) (c : Capability) (grants lendable user q : ℕ)
+    → permitting tick y (slotTerms o x c grants 0) user q ≡ permitting tick y (slotTerms o x c grants lendable) user q
+unfolding slotTerms
+unlent tick y (ofRole k) x c grants lendable user q = refl
+unlent tick y (ofCapability n) x c grants lendable user q = refl
+
 -- what an origin permits, from its element
-origin-permits : (r : Register) (p : Places) (authorities : List ℕ) (s : Session) (q : ℕ) → Column authorities (r .roles) → OriginInRange (s .on) → OnPlaced p (s .on)
-    → permitsIn (r .clock) s ((look r p) .role) ((look r p) .capability) (grantedBy authorities (s .on) ((look r p) .capability)) q ≡ permits r (s .on) (s .user) q
+origin-permits : (r : Register) (p : Places) (columns : List ℕ) (s : Session) (q : ℕ) → Columns columns (r .roles) → OriginInRange (s .on) → OnPlaced p (s .on)
+    → permitsIn (r .clock) s ((look r p) .role) ((look r p) .capability) (grantedBy columns (s .on) ((look r p) .capability)) q ≡ permits r (s .on) (s .user) q
 unfolding permitsIn permits
-origin-permits r p authorities s q h l e =
+origin-permits r p columns s q h l e =
     let ranged = origin← (s .on) l in
-    ap₂ (λ (y : Party) (t : Terms). each (permitting (r .clock) y t (s .user) q))
+    let x : Role = (look r p) .role in
+    let c : Capability = (look r p) .capability in
+    ap each (unlent (r .clock) (partyIn (s .on) x c) (s .on) x c (grantedBy columns (s .on) c) (lendableBy columns (s .on) c) (s .user) q)
+    ∙ ap₂ (λ (y : Party) (t : Terms). each (permitting (r .clock) y t (s .user) q))
     (placed-party (r .roles) (r .capabilities) (s .on) (p .role) (p .capability) ranged e)
-    (placed-terms authorities (r .roles) h (r .capabilities) (s .on) (p .role) (p .capability) ranged e)
+    (placed-terms columns (r .roles) h (r .capabilities) (s .on) (p .role) (p .capability) ranged e)
 
 -- the answer to a check, by the session and what it is on, read from the register
-pub check-answered : (r : Register) (p : Places) (authorities : List ℕ) (s q : ℕ) → T (wellFormed r) → Column authorities (r .roles)
+pub check-answered : (r : Register) (p : Places) (columns : List ℕ) (s q : ℕ) → T (wellFormed r) → Columns columns (r .roles)
     → p .session ≡ s % 64 → OnPlaced p ((sessionAt (r .sessions) (s % 64)) .on)
-    → record { answer = checkAnswer (r .clock) (sessionAt (r .sessions) (p .session)) (roleAt (r .roles) (p .role)) (capabilityAt (r .capabilities) (p .capability)) authorities s q; after = r }
+    → record { answer = checkAnswer (r .clock) (sessionAt (r .sessions) (p .session)) (roleAt (r .roles) (p .role)) (capabilityAt (r .capabilities) (p .capability)) columns s q; after = r }
     ≡ settled r (check s q)
 unfolding checkAnswer settled ruling checkRuling
-check-answered r p authorities s q w h e o =
+check-answered r p columns s q w h e o =
     let ts : List Bool = isSession s ∷ isPermission q ∷ [] in
     settle-same r ((checking (session r (p .session)) false s q) .guards) _
     ∙ settle-ranged r 2 ts _ _ _ _ _ _
@@ -73,25 +84,25 @@ check-answered r p authorities s q w h e o =
     (λ g.
     let i : s % 64 ≡ s = in-range s 64 (g .0 .0) in (
       rw (e, i) (ap (λ (b : Bool). cond b 1 0)
-          (origin-permits r p authorities (sessionAt (r .sessions) s) q h (formed→ r w .sessions s (ltb→lt s 64 (g .0 .0)) (passed 3 ((checkRuling r s q) .guards) g .0) .on-range) (rw i at o))),
+          (origin-permits r p columns (sessionAt (r .sessions) s) q h (formed→ r w .sessions s (ltb→lt s 64 (g .0 .0)) (passed 3 ((checkRuling r s q) .guards) g .0) .on-range) (rw i at o))),
       refl,
     ))
 
 -- the same, where o is the answer and the places are those that the session's own numbers give
-pub check-done : (r : Register) (authorities : List ℕ) (n q i j : ℕ) (o : Outcome) → T (wellFormed r) → Column authorities (r .roles)
+pub check-done : (r : Register) (columns : List ℕ) (n q i j : ℕ) (o : Outcome) → T (wellFormed r) → Columns columns (r .roles)
     → (let on = (sessionAt (r .sessions) (n % 64)) .on in (i ≡ roleHeld on) × (j ≡ capabilityHeld on)) → j < 256
-    → o ≡ checkAnswer (r .clock) (sessionAt (r .sessions) (n % 64)) (roleAt (r .roles) (i % 32)) (capabilityAt (r .capabilities) j) authorities n q
+    → o ≡ checkAnswer (r .clock) (sessionAt (r .sessions) (n % 64)) (roleAt (r .roles) (i % 32)) (capabilityAt (r .capabilities) j) columns n q
     → record { answer = o; after = r } ≡ settled r (check n q)
-check-done r authorities n q i j o k column held few e =
+check-done r columns n q i j o k column held few e =
     ap (λ (z : Outcome). record { answer = z; after = r }) e
-    ∙ check-answered r (record { user = 0; role = i % 32; parent = 0; capability = j; session = n % 64 }) authorities n q k column refl (held-placed ((sessionAt (r .sessions) (n % 64)) .on) i j (held .0) (held .1) few)
+    ∙ check-answered r (record { user = 0; role = i % 32; parent = 0; capability = j; session = n % 64 }) columns n q k column refl (held-placed ((sessionAt (r .sessions) (n % 64)) .on) i j (held .0) (held .1) few)
 
-pub check-commit : (r : Register) (p : Places) (authorities : List ℕ) (s q : ℕ) → T (wellFormed r) → Column authorities (r .roles)
+pub check-commit : (r : Register) (p : Places) (columns : List ℕ) (s q : ℕ) → T (wellFormed r) → Columns columns (r .roles)
     → p .session ≡ s % 64 → OnPlaced p ((sessionAt (r .sessions) (s % 64)) .on)
-    → lifted r p (checkDecision (look r p) authorities s q) ≡ settled r (check s q)
-check-commit r p authorities s q w h e o =
-    ap (λ (z : Register). record { answer = (checkDecision (look r p) authorities s q) .answer; after = z }) (put-same r p)
-    ∙ check-answered r p authorities s q w h e o
+    → lifted r p (checkDecision (look r p) columns s q) ≡ settled r (check s q)
+check-commit r p columns s q w h e o =
+    ap (λ (z : Register). record { answer = (checkDecision (look r p) columns s q) .answer; after = z }) (put-same r p)
+    ∙ check-answered r p columns s q w h e o
 
 -- ---- open
 

@@ -22,9 +22,10 @@ use Rattle.slots.specs.Terms.{usedIn}
 unfoldable pub closeDecision : Slots → ℕ → Effect Slots
 closeDecision v s = ruled v (into (withSessionSlots v (v .capability)) (closing (v .session) s))
 
--- the session s has the permission; x or c is the role or the capability that it is on, with the authority `grants`
+-- the session s has the permission; x or c is the role or the capability that it is on, with the authority `grants`; what it may lend
+-- is not read
 unfoldable pub permitsIn : (tick : ℕ) → Session → Role → Capability → (grants permission : ℕ) → Bool
-permitsIn tick s x c grants q = each (permitting tick (partyIn (s .on) x c) (slotTerms (s .on) x c grants) (s .user) q)
+permitsIn tick s x c grants q = each (permitting tick (partyIn (s .on) x c) (slotTerms (s .on) x c grants 0) (s .user) q)
 
 -- the answer alone, since check changes nothing
 unfoldable pub checkAnswer : (tick : ℕ) → Session → Role → Capability → List ℕ → (n permission : ℕ) → Outcome
@@ -39,7 +40,7 @@ checkDecision v column n q =
 -- of the terms only the masks and the revoked mark are read, so no authority
 abbrev pub openingOn : Slots → Origin → (s user : ℕ) → Context → Ruling Session
 openingOn v o s user at =
-    openingSession (v .clock) (v .enrolled) (v .count) (v .session) (partyIn o (v .role) (v .capability)) (slotTerms o (v .role) (v .capability) 0) s user o at
+    openingSession (v .clock) (v .enrolled) (v .count) (v .session) (partyIn o (v .role) (v .capability)) (slotTerms o (v .role) (v .capability) 0 0) s user o at
 
 unfoldable pub openDecision : Slots → (s user : ℕ) → Named → Context → Effect Slots
 openDecision v s user o at = ruled v (into (withSessionSlots v (usedIn (namedOrigin o) (v .capability))) (openingOn v (namedOrigin o) s user at))

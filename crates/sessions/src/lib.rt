@@ -70,7 +70,7 @@ fn permitted(tick: u32, s: Session, x: Role, c: Capability, grants: u32, permiss
     ensures { λ q. ⌜ q ≡ permitsIn tick s x c grants permission ⌝ }
 {
     let o = s.on;
-    let t = allowance_of(o, x, c, grants);
+    let t = allowance_of(o, x, c, grants, 0);
     let entitled = member_in(o, x, c, s.user as u32);
     let alive = alive_in(o, c, tick);
     let granted = member(t.grants as u64, permission);
@@ -91,26 +91,26 @@ pub fn answer_check(
     s: Session,
     x: Role,
     c: Capability,
-    authorities: &[u32; 32],
+    columns: &[u32; 64],
     session: u32,
     permission: u32,
 ) -> Answer
-    ensures { λ q. ⌜ outcomeOf q ≡ checkAnswer tick s x c (now (authorities .entry)) session permission ⌝ }
+    ensures { λ q. ⌜ outcomeOf q ≡ checkAnswer tick s x c (now (columns .entry)) session permission ⌝ }
 {
     let k = check_guards(s, session, permission);
     let o = s.on;
-    let grants = granted_by(authorities, o, c);
+    let grants = granted_by(columns, o, c);
     let yes = permitted(tick, s, x, c, grants, permission);
     answered(k, yes_number(yes))
 }
 
-pub fn decide_check(v: Slots, authorities: &[u32; 32], session: u32, permission: u32) -> Decision
-    ensures { λ q. ⌜ ruledOf q ≡ checkDecision v (now (authorities .entry)) session permission ⌝ }
+pub fn decide_check(v: Slots, columns: &[u32; 64], session: u32, permission: u32) -> Decision
+    ensures { λ q. ⌜ ruledOf q ≡ checkDecision v (now (columns .entry)) session permission ⌝ }
 {
     let s = v.session;
     let x = v.role;
     let c = v.capability;
-    let answer = answer_check(v.clock, s, x, c, authorities, session, permission);
+    let answer = answer_check(v.clock, s, x, c, columns, session, permission);
     Decision { answer, slots: v }
 }
 
@@ -122,7 +122,7 @@ fn admission_guards(v: Slots, o: Origin, session: u32, user: u32, at: Context) -
 {
     let x = v.role;
     let c = v.capability;
-    let t = allowance_of(o, x, c, 0);
+    let t = allowance_of(o, x, c, 0, 0);
     let entitled = member_in(o, x, c, user);
     let alive = alive_in(o, c, v.clock);
     let admitted = admits(t, at);

@@ -8,9 +8,8 @@ use Rattle.model.specs.State.{Terms}
 use Rattle.model.specs.Setters.{withUses, withCreations}
 use Rattle.model.specs.Delegation.{createdOnce}
 use Rattle.model.specs.Sessions.{usedOnce}
-use Rattle.origins.specs.Authority.{grantedBy}
 use Rattle.origins.specs.Numbers.{Placed}
-use Rattle.origins.specs.Terms.{slotTerms}
+use Rattle.origins.specs.Terms.{columnTerms}
 use Rattle.slots.specs.declared.Slots.{Slots}
 use Rattle.slots.specs.Guards.{raisedOf}
 use Rattle.slots.specs.Slots.{Places}
@@ -41,6 +40,6 @@ OriginPlaced p o = Placed o (p .role) (p .parent)
 abbrev pub OnPlaced : Places → Origin → Type 0
 OnPlaced p o = Placed o (p .role) (p .capability)
 
--- what the origin allows, by the column of the roles' authorities
+-- what the origin allows, by the columns of the roles
 abbrev pub originTerms : Slots → List ℕ → Origin → Terms
-originTerms v column o = slotTerms o (v .role) (v .parent) (grantedBy column o (v .parent))
+originTerms v columns o = columnTerms columns o (v .role) (v .parent)

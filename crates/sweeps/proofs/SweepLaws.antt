@@ -21,9 +21,9 @@ use Rattle.model.specs.Rulings.{value}
 use Rattle.model.proofs.Authority.{authority-past}
 use Rattle.model.specs.Setters.{withRoles, withCapabilities, withRevoked, withUseLimit, withPermissions}
 use Rattle.model.specs.Administration.{cutPermissions}
-use Rattle.origins.specs.Authority.{roleGrants, authorityIn, grantedBy}
+use Rattle.origins.specs.Authority.{item, roleItem, authorityIn, grantedBy, Columns}
 use Rattle.origins.specs.Numbers.{capabilityHeld}
-use Rattle.origins.proofs.Laws.{Column, role-granted, authority-read, bare-read}
+use Rattle.origins.proofs.Laws.{role-granted, authority-read, bare-read}
 use Rattle.sweeps.specs.declared.Sweep.{Sweep}
 use Rattle.sweeps.specs.declared.Sweep.the-variants.{Mark, Limit, Cut}
 use Rattle.sweeps.specs.Sweeping.{oneIf, sweptOne, sweepOne, rolesAfter, sweepValue, newlyBy, sweptBy}
@@ -57,12 +57,12 @@ one-le false e = omega arith
 
 -- ---- one capability, whose parent is read from its place
 
-module _ (roles : List Role) (cs : List Capability) (column : List ℕ) (kept : Column column roles) (amount : length roles ≡ 32) where
+module _ (roles : List Role) (cs : List Capability) (column : List ℕ) (kept : Columns column roles) (amount : length roles ≡ 32) where
   -- no role is past 31
-  role-above : (k : ℕ) → Dec (k < 32) → roleGrants column k ≡ roleAuthority roles k
-  unfolding roleGrants
+  role-above : (k : ℕ) → Dec (k < 32) → roleItem column 0 k ≡ roleAuthority roles k
+  unfolding roleItem
   role-above k (yes l) = role-granted column roles kept k l
-  role-above k (no g) = ap (λ (b : Bool). cond b (getD column k 0) 0) (le-ltb k 32 (omega arith)) ∙ authority-past roles k (omega arith)
+  role-above k (no g) = ap (λ (b : Bool). cond b (item column 0 k) 0) (le-ltb k 32 (omega arith)) ∙ authority-past roles k (omega arith)
 
   granted-above : (o : Origin) (j : ℕ) → j ≡ capabilityHeld o → grantedBy column o (capabilityAt cs j) ≡ (terms roles cs o) .grants
   unfolding terms

@@ -12,7 +12,7 @@ use model::Capability;
 use model::Register;
 use model::Reply;
 use model::Role;
-use origins::authority::authorities_of;
+use origins::authority::columns_of;
 use origins::authority::granted_by;
 use origins::numbers::capability_held;
 use origins::terms::bare_allowance;
@@ -75,9 +75,9 @@ fn swept(
     i: usize,
     c: Capability,
     parent: Capability,
-    authorities: &[u32; 32],
+    columns: &[u32; 64],
 ) -> Capability
-    ensures { λ q. ⌜ q ≡ sweptOne s i c parent (now (authorities .entry)) ⌝ }
+    ensures { λ q. ⌜ q ≡ sweptOne s i c parent (now (columns .entry)) ⌝ }
 {
     let o = c.origin;
     match s {
@@ -89,7 +89,7 @@ fn swept(
             let up = bare_allowance(o, parent);
             limited(c, i == n as usize, limit, up.use_limit)
         }
-        Sweep::Cut(_, _) => cut(c, granted_by(authorities, o, parent)),
+        Sweep::Cut(_, _) => cut(c, granted_by(columns, o, parent)),
     }
 }
 
@@ -129,7 +129,7 @@ pub fn sweep_all(r: Register, s: Sweep) -> Reply
 {
     let before = r.roles;
     let roles = roles_after(before, s);
-    let authorities = authorities_of(roles);
+    let columns = columns_of(roles);
     let mut next = r;
     next.roles = roles;
     let mut marks: u32 = 0;
@@ -138,7 +138,7 @@ pub fn sweep_all(r: Register, s: Sweep) -> Reply
         let c = next.capabilities[i];
         let o = c.origin;
         let parent = next.capabilities[capability_held(o) as usize];
-        let d = swept(s, i, c, parent, &authorities);
+        let d = swept(s, i, c, parent, &columns);
         next.capabilities[i] = d;
         marks = marks + one_if(d.revoked & !c.revoked);
         i = i + 1;

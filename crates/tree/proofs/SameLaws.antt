@@ -12,8 +12,8 @@ use Rattle.model.specs.Rules.{wellFormed, isCapability}
 use Rattle.model.specs.Rulings.{Outcome, Effect, _unless_, settle}
 use Rattle.model.specs.Comparison.{domainOf, alike, sameGuards, sameRuling}
 use Rattle.model.specs.Calls.{same, ruling, settled}
-use Rattle.origins.specs.Authority.{authorityIn}
-use Rattle.origins.proofs.Laws.{in-range, Column, authority-read}
+use Rattle.origins.specs.Authority.{authorityIn, Columns}
+use Rattle.origins.proofs.Laws.{in-range, authority-read}
 use Rattle.sweeps.specs.Sweeping.{oneIf}
 use Rattle.tree.specs.Guards.{sameAnswer}
 use Rattle.tree.specs.Tree.{lineageEnd}
@@ -25,18 +25,18 @@ abbrev pub EndsAt : List ℕ → ℕ → ℕ → Type 0
 EndsAt origins n x = (f : ℕ) → n % 256 < f → x ≡ lineageEnd (λ k. getD origins k 0) f (n % 256)
 
 module _
-    (r : Register) (formed : T (wellFormed r)) (origins authorities : List ℕ) (up : Origins origins (r .capabilities)) (column : Column authorities (r .roles)) where
+    (r : Register) (formed : T (wellFormed r)) (origins columns : List ℕ) (up : Origins origins (r .capabilities)) (column : Columns columns (r .roles)) where
   domain-is : (n x : ℕ) → n % 256 ≡ n → n < r .count → EndsAt origins n x → (roleAt (r .roles) x) .domain ≡ domainOf r n
   unfolding domainOf
   domain-is n x e l h = ap (λ (k : ℕ). (roleAt (r .roles) k) .domain) (root-is r formed origins up n x l (rw e at h))
 
-  authority-is : (n a : ℕ) → n % 256 ≡ n → a ≡ authorityIn authorities (capabilityAt (r .capabilities) (n % 256)) → a ≡ authority (r .roles) (capabilityAt (r .capabilities) n)
-  authority-is n a e h = h ∙ ap (λ (k : ℕ). authorityIn authorities (capabilityAt (r .capabilities) k)) e ∙ authority-read authorities (r .roles) column (capabilityAt (r .capabilities) n)
+  authority-is : (n a : ℕ) → n % 256 ≡ n → a ≡ authorityIn columns (capabilityAt (r .capabilities) (n % 256)) → a ≡ authority (r .roles) (capabilityAt (r .capabilities) n)
+  authority-is n a e h = h ∙ ap (λ (k : ℕ). authorityIn columns (capabilityAt (r .capabilities) k)) e ∙ authority-read columns (r .roles) column (capabilityAt (r .capabilities) n)
 
   -- x and y are where the lineages end, a and b the authorities; the answer q is the call's, and the register stays
   pub same-settled : (m n x y domain-a domain-b a b : ℕ) {q : Outcome} → EndsAt origins m x → EndsAt origins n y
       → domain-a ≡ (roleAt (r .roles) x) .domain → domain-b ≡ (roleAt (r .roles) y) .domain
-      → a ≡ authorityIn authorities (capabilityAt (r .capabilities) (m % 256)) → b ≡ authorityIn authorities (capabilityAt (r .capabilities) (n % 256))
+      → a ≡ authorityIn columns (capabilityAt (r .capabilities) (m % 256)) → b ≡ authorityIn columns (capabilityAt (r .capabilities) (n % 256))
       → q ≡ sameAnswer (r .count) m n domain-a domain-b a b
       → _≡_ {A = Effect Register} (record { answer = q; after = r }) (settled r (same m n))
   unfolding sameAnswer settled ruling sameRuling alike oneIf

@@ -14,7 +14,7 @@ use crate::orders::Order;
 use model::Answer;
 use model::Refusal;
 use model::Register;
-use origins::authority::authorities_of;
+use origins::authority::columns_of;
 use origins::authority::authority_in;
 use slots::guards::Guarded;
 use slots::guards::answered;
@@ -49,12 +49,12 @@ pub fn same_order(r: Register, m: u32, n: u32) -> Order
     let tree = lineage_of(r);
     let origins = tree.origins;
     let roles = r.roles;
-    let authorities = authorities_of(roles);
+    let columns = columns_of(roles);
     let i = (m % 256) as usize;
     let j = (n % 256) as usize;
     let x = roles[root_of(&origins, i) as usize];
     let y = roles[root_of(&origins, j) as usize];
-    let a = authority_in(&authorities, r.capabilities[i]);
-    let b = authority_in(&authorities, r.capabilities[j]);
+    let a = authority_in(&columns, r.capabilities[i]);
+    let b = authority_in(&columns, r.capabilities[j]);
     Order::Answered(compare(r.count, m, n, x.domain, y.domain, a, b))
 }

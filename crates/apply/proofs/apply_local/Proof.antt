@@ -29,7 +29,7 @@ user c = search
 abbrev named : tie.After-user-at → tie.After-names-of
 named c = search
 
-abbrev known : tie.After-names-of → tie.After-authorities-of
+abbrev known : tie.After-names-of → tie.After-columns-of
 known c = search
 
 abbrev begun : tie.After-names-of → tie.Start
@@ -61,7 +61,7 @@ returns c =
     let sn = session d in
     let un = user d in
     let m = named un in
-    let column = known m .authorities-of in
+    let column = known m .columns-of in
     let s = begun m in
     commit (s .args .t1) (m .names-of .result) (un .user-at .result) (sn .session-at .result) (cn .capability-at .result) (rn .role-at .result) (pn .parent-at .result)
     (column .result) (s .args .q) (v .seen .result) (d .decide .result) (s .pre) (column .ensures) (m .names-of .ensures)

@@ -18,7 +18,7 @@ use Rattle.model.specs.Lines.{printed}
 use Rattle.masks.specs.Bytes.{split}
 use Rattle.model.specs.Journal.{lineEffect, transcript}
 use Rattle.model.proofs.Rules.{kept→}
-use Rattle.origins.proofs.Laws.{Column}
+use Rattle.origins.specs.Authority.{Columns}
 use Rattle.slots.specs.declared.Slots.{Slots}
 use Rattle.slots.specs.Slots.{Places, put, lifted, ruledOf}
 use Rattle.places.specs.declared.Names.{Names}
@@ -26,7 +26,7 @@ use Rattle.places.specs.Requests.{changesRole}
 use Rattle.tree.specs.Orders.{orderEffect}
 use Rattle.sessions.proofs.Commits.{check-done}
 use Rattle.dispatch.specs.Decide.{decideOf}
-use Rattle.dispatch.proofs.Columns.{column-kept}
+use Rattle.dispatch.proofs.Columns.{columns-kept}
 use Rattle.dispatch.proofs.Commits.{placed, commit}
 use Rattle.text.specs.Parts.{before}
 use Rattle.player.proofs.Transcripts.{transcript-last, transcript-done}
@@ -39,11 +39,11 @@ use Rattle.player.proofs.play.Tie as tie
 
 -- what is still to be printed, after what is printed, gives the whole; the rules and the column follow the register
 abbrev Inv-loop : tie.InvT-loop
-Inv-loop input out₀ formed authorities₀ r₀ at₀ to₀ out authorities r at to =
-    Playing r₀ input out₀ r out at to × (formed ≡ wellFormed r) × Column authorities (r .roles) × (length authorities ≡ 32)
+Inv-loop input out₀ formed authorities₀ r₀ at₀ to₀ out columns r at to =
+    Playing r₀ input out₀ r out at to × (formed ≡ wellFormed r) × Columns columns (r .roles) × (length columns ≡ 64)
 
 abbrev μ-loop : tie.MeasureT-loop
-μ-loop input out₀ formed authorities₀ r₀ at₀ to₀ out authorities r at to = length input - at
+μ-loop input out₀ formed authorities₀ r₀ at₀ to₀ out columns r at to = length input - at
 
 -- ---- the way back, from each landmark to the one before it
 
@@ -140,7 +140,7 @@ loop-holds c =
     let f : tie.After-well-formed Inv-loop μ-loop = search in let s : Start = search in (
       record { inside = omega arith; text = refl; size = omega arith; kept = refl; room = omega (arith, s .pre, transcript-most (s .args .start) (s .args .input .now)) },
       f .well-formed .ensures,
-      c .authorities-of .ensures,
+      c .columns-of .ensures,
       search needs,
     )
 
@@ -274,7 +274,7 @@ checks c =
     let fit = subst (Fits _ _) (at .step2 .given .1) (s .step-of .ensures) in
     let k = keeps s (fit .0) in
     line-done (l .r) _ _ _ (fit .1) k
-    (check-done (l .r) (l .authorities) _ _ _ _ _ k (l .inv .2) (role-held c .role-held .ensures, capability-held c .capability-held .ensures) (omega (arith, capability-held c .capability-held)) (c .answer-check .ensures))
+    (check-done (l .r) (l .columns) _ _ _ _ _ k (l .inv .2) (role-held c .role-held .ensures, capability-held c .capability-held .ensures) (omega (arith, capability-held c .capability-held)) (c .answer-check .ensures))
 
 add-to-2 : tie.Need-add-to-2 Inv-loop μ-loop
 add-to-2 c =
@@ -354,7 +354,7 @@ loop-again-4 : tie.Need-loop-again-4 Inv-loop μ-loop
 loop-again-4 c =
     let p : tie.After-print5 Inv-loop μ-loop = search in
     let w = played (search) _ _ _ _ (sweeps (search)) (p .print5 .ensures) .1 (search) in
-    (w .0, w .1, c .authorities-of2 .ensures, search needs)
+    (w .0, w .1, c .columns-of2 .ensures, search needs)
 
 -- ---- a call that changes only elements that it names
 
@@ -374,7 +374,7 @@ module _ (d : Decided) where
       let fit = subst (Fits _ _) (one-at d .step4 .given .1) (told-one .step-of .ensures) in
       let k = keeps told-one (fit .0) in
       line-done (l .r) _ _ _ (fit .1) k
-      (commit (l .r) (names d .names-of .result) _ _ _ _ _ (l .authorities) (one-at d .step4 .given .0 .0) _ (d .decide .result) k (l .inv .2) (names d .names-of .ensures)
+      (commit (l .r) (names d .names-of .result) _ _ _ _ _ (l .columns) (one-at d .step4 .given .0 .0) _ (d .decide .result) k (l .inv .2) (names d .names-of .ensures)
       (record {
         user = user d .user-at .ensures .0;
         session = session d .session-at .ensures .0;
@@ -429,7 +429,7 @@ loop-again-5 : tie.Need-loop-again-5 Inv-loop μ-loop
 unfolding put
 loop-again-5 c =
     let w = put-on (search) in
-    (w .0, w .1, c .authorities-of3 .ensures, search needs)
+    (w .0, w .1, c .columns-of3 .ensures, search needs)
 
 loop-less-6 : tie.Need-loop-less-6 Inv-loop μ-loop
 loop-less-6 c = omega (arith, short (told-one (search)))
@@ -443,8 +443,8 @@ loop-again-6 c =
     let l = now-one d .loop in
     let q = one-at d .step4 .given .0 .0 in
     let same = ap (λ (m : Names). changesRole (m .follow)) (sym (names d .names-of .ensures)) ∙ sym (changed .changes-role .ensures) ∙ c .if2 .left in
-    let e = d .decide .ensures ∙ ap (λ (v : Slots). decideOf v (l .authorities) q) (seen d .seen .ensures) in
-    (w .0, w .1, column-kept (l .r) (Where d) (l .authorities) q (d .decide .result) (l .inv .2) e same, l .inv .3)
+    let e = d .decide .ensures ∙ ap (λ (v : Slots). decideOf v (l .columns) q) (seen d .seen .ensures) in
+    (w .0, w .1, columns-kept (l .r) (Where d) (l .columns) q (d .decide .result) (l .inv .2) e same, l .inv .3)
 
 -- ---- the end
 

@@ -22,7 +22,7 @@ returns c =
       ap (λ (t : Terms). t .revoked) e,
       ap (λ (t : Terms). t .grants) e,
     )
-    (left-each (permitting (a .tick) (partyIn (a .s .on) (a .x) (a .c)) (slotTerms (a .s .on) (a .x) (a .c) (a .grants)) (a .s .user) (a .permission)))
+    (left-each (permitting (a .tick) (partyIn (a .s .on) (a .x) (a .c)) (slotTerms (a .s .on) (a .x) (a .c) (a .grants) 0) (a .s .user) (a .permission)))
 
 pub permitted-spec : {M : Type 1} → statement M
 permitted-spec =

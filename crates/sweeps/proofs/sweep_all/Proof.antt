@@ -13,13 +13,13 @@ use Rattle.sweeps.proofs.sweep_all.Statement.{statement}
 use Rattle.sweeps.proofs.sweep_all.Tie as tie
 
 abbrev Inv-loop : tie.InvT-loop
-Inv-loop s authorities next₀ marks₀ i₀ next marks i =
+Inv-loop s columns next₀ marks₀ i₀ next marks i =
     (i ≤ 256) × (marks ≤ i)
     × (next ≡ withCapabilities next₀ (rising blankCapability (sweepOne (next₀ .roles) s) i (next₀ .capabilities)))
     × (marks ≡ countBelow i (newlyBy (sweepOne (next₀ .roles) s) (next₀ .capabilities)))
 
 abbrev μ-loop : tie.MeasureT-loop
-μ-loop s authorities next₀ marks₀ i₀ next marks i = 256 - i
+μ-loop s columns next₀ marks₀ i₀ next marks i = 256 - i
 
 loop-holds : tie.Need-loop-holds Inv-loop μ-loop
 unfolding rising countBelow
@@ -31,12 +31,12 @@ add-marks c = omega (arith, one-le _ (c .one-if .ensures))
 loop-again : tie.Need-loop-again Inv-loop μ-loop
 loop-again c =
     let w : tie.After-swept Inv-loop μ-loop = search in let capability-held : tie.After-capability-held Inv-loop μ-loop = search in
-    let g : tie.At-loop Inv-loop μ-loop = search in let authorities-of : tie.After-authorities-of Inv-loop μ-loop = search in
+    let g : tie.At-loop Inv-loop μ-loop = search in let columns-of : tie.After-columns-of Inv-loop μ-loop = search in
     let roles-after : tie.After-roles-after Inv-loop μ-loop = search in let s : tie.Start Inv-loop μ-loop = search in
     let l = g .loop in
     let a = roles-after .roles-after in
     let amount : length (a .result) ≡ 32 = ap length (a .ensures) ∙ after-amount (s .args .r .roles) (s .args .s) ∙ s .pre in
-    let d = swept-step _ (l .next .capabilities) _ (authorities-of .authorities-of .ensures) amount (s .args .s) (l .i) _ _ (capability-held .capability-held .ensures) (w .swept .ensures) in (
+    let d = swept-step _ (l .next .capabilities) _ (columns-of .columns-of .ensures) amount (s .args .s) (l .i) _ _ (capability-held .capability-held .ensures) (w .swept .ensures) in (
       search needs,
       omega (arith, one-le _ (c .one-if .ensures)),
       sweep-more _ _ (l .next) (l .i) _ (l .inv .2) d,

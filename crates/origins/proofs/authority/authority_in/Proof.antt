@@ -1,10 +1,10 @@
 use borrow.Author.Needs.{needs}
-use Rattle.origins.specs.Authority.{authorityIn}
+use Rattle.origins.specs.Authority.{authorityIn, joinedItems}
 use Rattle.origins.proofs.authority.authority_in.Statement.{statement}
 use Rattle.origins.proofs.authority.authority_in.Tie as tie
 
 returns : tie.Need-returns
-unfolding authorityIn
+unfolding authorityIn joinedItems
 returns c = let join : tie.After-join = search in rw (join .join .ensures)
 
 pub authority-in-spec : {M : Type 1} → statement M

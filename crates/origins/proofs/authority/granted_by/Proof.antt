@@ -3,7 +3,7 @@ use Rattle.origins.proofs.authority.granted_by.Statement.{statement}
 use Rattle.origins.proofs.authority.granted_by.Tie as tie
 
 returns : tie.Need-returns
-returns c = let o : tie.After-o = search in rw (o .o .given .1) (c .role-grants .ensures)
+returns c = let o : tie.After-o = search in rw (o .o .given .1) (c .role-item .ensures)
 
 returns-2 : tie.Need-returns-2
 returns-2 c = let enum-told : tie.After-enum-told = search in rw (enum-told .enum-told .given .1) (c .authority-in .ensures)

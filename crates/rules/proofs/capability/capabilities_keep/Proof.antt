@@ -20,20 +20,20 @@ use Rattle.rules.proofs.capability.capabilities_keep.Statement.{stateme
 use Rattle.rules.proofs.capability.capabilities_keep.Tie as tie
 
 abbrev Inv-loop : tie.InvT-loop
-Inv-loop bound r roles authorities founded created table₀ n₀ table n = (n ≤ created) × (table ≡ tally (r .capabilities) n)
+Inv-loop bound r roles columns founded created table₀ n₀ table n = (n ≤ created) × (table ≡ tally (r .capabilities) n)
 
 abbrev μ-loop : tie.MeasureT-loop
-μ-loop bound r roles authorities founded created table₀ n₀ table n = created - n
+μ-loop bound r roles columns founded created table₀ n₀ table n = created - n
 
 abbrev Inv-loop2 : tie.InvT-loop2
-Inv-loop2 bound r roles authorities founded created table n enrolled count i₀ i =
+Inv-loop2 bound r roles columns founded created table n enrolled count i₀ i =
     (i ≤ bound)
     × (length table ≡ 256)
     × (r .count ≤ 256 → table ≡ tally (r .capabilities) (r .count))
     × (r .count ≤ 256 → true ≡ allBelow i (λ n. placeKeeps (r .enrolled) (r .roles) (r .count) (r .capabilities) n (capabilityAt (r .capabilities) n)))
 
 abbrev μ-loop2 : tie.MeasureT-loop2
-μ-loop2 bound r roles authorities founded created table n enrolled count i₀ i = bound - i
+μ-loop2 bound r roles columns founded created table n enrolled count i₀ i = bound - i
 
 -- places of the function, each found by its type
 abbrev start : tie.Start Inv-loop μ-loop Inv-loop2 μ-loop2 → tie.Start Inv-loop μ-loop Inv-loop2 μ-loop2
@@ -89,18 +89,17 @@ found : (c : tie.After-keeps-place Inv-loop μ-loop Inv-loop2 μ-loop2) →
 found c few =
     let first = counting (search) in
     let founded : tie.After-founded-roles Inv-loop μ-loop Inv-loop2 μ-loop2 = search in
-    let known : tie.After-authorities-of Inv-loop μ-loop Inv-loop2 μ-loop2 = search in
+    let known : tie.After-columns-of Inv-loop μ-loop Inv-loop2 μ-loop2 = search in
     let there : tie.After-present-in Inv-loop μ-loop Inv-loop2 μ-loop2 = search in
-    let u : tie.After-allowance-of Inv-loop μ-loop Inv-loop2 μ-loop2 = search in
-    let grants : tie.After-granted-by Inv-loop μ-loop Inv-loop2 μ-loop2 = search in
+    let u : tie.After-allowance-in Inv-loop μ-loop Inv-loop2 μ-loop2 = search in
     let held : tie.After-capability-held Inv-loop μ-loop Inv-loop2 μ-loop2 = search in
     let role : tie.After-role-held Inv-loop μ-loop Inv-loop2 μ-loop2 = search in
     let l = turned c .loop2 in
     let r = begun c .args .t1 in
     c .keeps-place .ensures
-    ∙ place-agrees (r .enrolled) (r .roles) (r .count) (r .capabilities) (l .i) (role .role-held .result % 32) (held .capability-held .result) _ (getD (first .loop .table) (l .i) 0) (known .authorities-of .result) _ _
-    (held-placed (capabilityAt (r .capabilities) (l .i) .origin) _ _ (role .role-held .ensures) (held .capability-held .ensures) (omega (arith, held .capability-held))) (founded .founded-roles .ensures) (known .authorities-of .ensures)
-    (there .present-in .ensures (capabilityAt (r .capabilities) (held .capability-held .result))) (rw (← grants .granted-by .ensures) (u .allowance-of .ensures))
+    ∙ place-agrees (r .enrolled) (r .roles) (r .count) (r .capabilities) (l .i) (role .role-held .result % 32) (held .capability-held .result) _ (getD (first .loop .table) (l .i) 0) (known .columns-of .result) _ _
+    (held-placed (capabilityAt (r .capabilities) (l .i) .origin) _ _ (role .role-held .ensures) (held .capability-held .ensures) (omega (arith, held .capability-held))) (founded .founded-roles .ensures) (known .columns-of .ensures)
+    (there .present-in .ensures (capabilityAt (r .capabilities) (held .capability-held .result))) (u .allowance-in .ensures)
     (ap (λ t. getD t (l .i) 0) (l .inv .2 few) ∙ tally-at (r .capabilities) (l .i) (r .count) (omega (arith, begun c .pre)))
 
 returns : tie.Need-returns Inv-loop μ-loop Inv-loop2 μ-loop2
@@ -137,8 +136,7 @@ capabilities-keep-spec =
     loop-again
     loop2-holds
     (λ c. search needs) (λ c. search needs) (λ c κs. search needs) (λ c. search needs) (λ c. search needs) (λ c. search needs)
-    (λ c κs. search needs) (λ c. search needs) (λ c. search needs) (λ c. search needs) (λ c κs. search needs) (λ c κs. search needs)
-    (λ c κs. search needs) (λ c. search needs) (λ c. search needs) (λ c κs. search needs)
+    (λ c κs. search needs) (λ c. search needs) (λ c. search needs) (λ c. search needs) (λ c κs. search needs) (λ c κs. search needs) (λ c. search needs) (λ c. search needs) (λ c κs. search needs)
     returns
     add-i
     (λ c. search needs)

@@ -33,7 +33,7 @@ loop-again c =
       all-more (l .loop .i) _ (l .loop .inv .1)
           (ap (λ t. l .loop .ok && t)
           (c .session-keeps .ensures
-          ∙ session-agrees (r .enrolled) (r .roles) (r .count) (r .capabilities) (l .loop .i) (role .role-held .result % 32) (held .capability-held .result) 0 (sessionAt (r .sessions) (l .loop .i)) _ _ (held-placed (sessionAt (r .sessions) (l .loop .i) .on) _ _ (search) (search) (omega arith)) (there .present-in .ensures _) (search))),
+          ∙ session-agrees (r .enrolled) (r .roles) (r .count) (r .capabilities) (l .loop .i) (role .role-held .result % 32) (held .capability-held .result) 0 0 (sessionAt (r .sessions) (l .loop .i)) _ _ (held-placed (sessionAt (r .sessions) (l .loop .i) .on) _ _ (search) (search) (omega arith)) (there .present-in .ensures _) (search))),
     )
 
 returns : tie.Need-returns Inv-loop μ-loop

@@ -8,8 +8,8 @@ use Rattle.tree.proofs.comparing.same_order.Tie as tie
 returns : tie.Need-returns
 returns c =
     let a : tie.After-authority-in = search in let y : tie.After-root-of2 = search in let x : tie.After-root-of = search in
-    let p : tie.After-authorities-of = search in let t : tie.After-lineage-of = search in let s : tie.Start = search in
-    same-settled (s .args .t1) (search) (t .lineage-of .result .origins) (p .authorities-of .result) (search) (search) (s .args .m) (s .args .n) _ _ _ _ _ _
+    let p : tie.After-columns-of = search in let t : tie.After-lineage-of = search in let s : tie.Start = search in
+    same-settled (s .args .t1) (search) (t .lineage-of .result .origins) (p .columns-of .result) (search) (search) (s .args .m) (s .args .n) _ _ _ _ _ _
     (x .root-of .ensures .1) (y .root-of2 .ensures .1) refl refl (a .authority-in .ensures) (search) (c .compare .ensures)
 
 pub same-order-spec : {M : Type 1} → statement M
