@@ -83,14 +83,7 @@ pub struct Extension {
 }
 
 // Allow and lend, once it is known what they add to.
-fn give(
-    v: Slots,
-    columns: &[u32; 64],
-    user: u32,
-    number: u32,
-    mask: u32,
-    e: Extension,
-) -> Decision
+fn give(v: Slots, columns: &[u32; 64], user: u32, number: u32, mask: u32, e: Extension) -> Decision
     ensures { λ q. ⌜ ruledOf q ≡ giveDecision v (now (columns .entry)) (e .given) (e .had) user number mask (withLent (withPermissions (v .capability) (e .permissions)) (e .lent)) ⌝ }
 {
     let c = v.capability;
@@ -120,13 +113,7 @@ pub fn decide_hand(v: Slots, user: u32, receiver: u32, number: u32) -> Decision
 }
 
 // The slot `capability` is the capability named; the slot `role` or `parent` is its origin.
-pub fn decide_allow(
-    v: Slots,
-    columns: &[u32; 64],
-    user: u32,
-    number: u32,
-    mask: u32,
-) -> Decision
+pub fn decide_allow(v: Slots, columns: &[u32; 64], user: u32, number: u32, mask: u32) -> Decision
     ensures { λ q. ⌜ ruledOf q ≡ allowDecision v (now (columns .entry)) user number mask ⌝ }
 {
     let c = v.capability;

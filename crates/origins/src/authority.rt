@@ -28,7 +28,11 @@ fn role_item(columns: &[u32; 64], from: usize, k: u8) -> u32
     requires { ⌜ from ≤ 32 ⌝ }
     ensures { λ q. ⌜ q ≡ roleItem (now (columns .entry)) from k ⌝ }
 {
-    if k < 32 { columns[from + k as usize] } else { 0 }
+    if k < 32 {
+        columns[from + k as usize]
+    } else {
+        0
+    }
 }
 
 // The authority of a capability: its own permissions and those of its lent roles.

@@ -70,13 +70,7 @@ pub enum Sweep {
 }
 
 // Capability c, which has number i, once the sweep has reached it; its parent is as it is by then.
-fn swept(
-    s: Sweep,
-    i: usize,
-    c: Capability,
-    parent: Capability,
-    columns: &[u32; 64],
-) -> Capability
+fn swept(s: Sweep, i: usize, c: Capability, parent: Capability, columns: &[u32; 64]) -> Capability
     ensures { λ q. ⌜ q ≡ sweptOne s i c parent (now (columns .entry)) ⌝ }
 {
     let o = c.origin;
