@@ -1,20 +1,73 @@
-// A journal played on the terminal: standard input from a fresh register, the answers on standard output. What is printed is proved
-// in the crate `player`; one byte more than the limit is read, so that a longer input is known.
-pub fn play_input() {
-    let mut input = [0u8; 32769];
-    let n = io::read_full(0, &mut input);
-    let mut out = [0u8; 163840];
-    let k = answer(&input[..n], &mut out);
-    emit(&out, k);
+// The journal program over the buffers that it is lent: standard input from a fresh register, the answers on standard output, a
+// fault on standard error. One byte more than the limit is read, so that a longer input is known.
+ghost use mathlib.Core.Path.{_≡_};
+ghost use Prim.Native.Nat.{_≤_};
+ghost use lib.ListN.{length, take};
+ghost use Rattle.masks.specs.Bytes.{front};
+ghost use Rattle.model.specs.Journal.{program};
+ghost use Rattle.terminal.specs.Played.{Replies, Plays};
+use transfer::End;
+use transfer::Transferred;
+use transfer::drain;
+use transfer::fill;
+
+pub mod transfer;
+
+// What was read and what was written.
+pub struct Played {
+    pub input: Transferred,
+    pub output: Transferred,
 }
 
-fn answer(input: &[u8], out: &mut [u8]) -> usize {
+fn answer(input: &[u8], out: &mut [u8]) -> usize
+    requires { ⌜ 163840 ≤ length (now out) ⌝ }
+    ensures { λ q. ⌜ (q ≡ length (program (now (input .entry)))) × (now (out .exit) ≡ front (program (now (input .entry))) (now (out .entry))) × (q ≤ length (now (out .exit))) ⌝ }
+{
     let start = model::fresh();
     player::journal(start, input, out)
 }
 
-fn emit(out: &[u8], k: usize) {
-    if k <= out.len() {
-        io::write_all(1, &out[..k]);
+// What was not written whole is told on standard error.
+fn tell_unless_whole(end: End) {
+    if let End::Whole = end {
+        return;
+    }
+    os::fail(b"journal: output");
+}
+
+// The answers to the first n bytes of the room, written out.
+fn reply(room: &[u8], n: usize, out: &mut [u8]) -> Transferred
+    requires { ⌜ n ≤ length (now room) ⌝ }
+    requires { ⌜ 163840 ≤ length (now out) ⌝ }
+    ensures { λ q. ⌜ Replies (take n (now (room .entry))) (now (out .entry)) (now (out .exit)) q ⌝ }
+{
+    let k = answer(&room[..n], out);
+    let written = drain(&out[..k]);
+    let end = written.end;
+    tell_unless_whole(end);
+    written
+}
+
+// Plays standard input. Where it cannot be read to its end, that is told on standard error and nothing is answered.
+pub fn play(input: &mut [u8; 32769], out: &mut [u8; 163840]) -> Played
+    ensures { λ q. ⌜ Plays (now (input .exit)) (now (out .entry)) (now (out .exit)) q ⌝ }
+{
+    let read = fill(input);
+    let end = read.end;
+    if let End::Failed = end {
+        os::fail(b"journal: input");
+        return Played {
+            input: read,
+            output: Transferred {
+                count: 0,
+                end: End::Failed,
+            },
+        };
+    }
+    let n = read.count;
+    let written = reply(input, n, out);
+    Played {
+        input: read,
+        output: written,
     }
 }

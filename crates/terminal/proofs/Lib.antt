@@ -1,0 +1,2 @@
+-- What a played journal leaves, and where a transfer stops.
+pub mod Laws

@@ -1,0 +1,3 @@
+-- What the program makes of the bytes that it reads, and how a transfer stops.
+pub mod Played
+pub mod Transfer
