@@ -7,7 +7,7 @@ use Rattle.terminal.specs.declared.transfer.Moved.{Moved}
 use Rattle.terminal.specs.declared.transfer.Moved.the-variants.{Bytes, Stop}
 use Rattle.terminal.specs.declared.transfer.Transferred.{Transferred}
 
--- n of the lent bytes were moved: all of them exactly where the transfer is called whole, and not all where the input ended
+-- n of the lent bytes were moved: all of them where the transfer is called whole, fewer where the input ended
 abbrev pub Ends : (lent n : ℕ) → End → Type 0
 Ends lent n Ended = n < lent
 Ends lent n Whole = n ≡ lent

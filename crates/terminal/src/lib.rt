@@ -6,6 +6,7 @@ ghost use lib.ListN.{length, take};
 ghost use Rattle.masks.specs.Bytes.{front};
 ghost use Rattle.model.specs.Journal.{program};
 ghost use Rattle.terminal.specs.Played.{Replies, Plays};
+use libc::STDOUT_FILENO;
 use transfer::End;
 use transfer::Transferred;
 use transfer::drain;
@@ -27,10 +28,13 @@ fn answer(input: &[u8], out: &mut [u8]) -> usize
     player::journal(start, input, out)
 }
 
-// What was not written whole is told on standard error.
-fn tell_unless_whole(end: End) {
+// What was not written whole is told on standard error. Some systems say so only as the output is closed.
+fn finish(written: Transferred) {
+    let end = written.end;
     if let End::Whole = end {
-        return;
+        if written.count == 0 || libc::close(STDOUT_FILENO) == 0 {
+            return;
+        }
     }
     os::fail(b"journal: output");
 }
@@ -43,8 +47,7 @@ fn reply(room: &[u8], n: usize, out: &mut [u8]) -> Transferred
 {
     let k = answer(&room[..n], out);
     let written = drain(&out[..k]);
-    let end = written.end;
-    tell_unless_whole(end);
+    finish(written);
     written
 }
 
