@@ -1,5 +1,6 @@
 -- `terminal::transfer::drain` meets its contract.
-use Prim.Native.Nat.{_+_, _≤_}
+use mathlib.Core.List.{List}
+use Prim.Native.Nat.{ℕ, _+_, _≤_}
 use native.Mathlib.Omega.{arith}
 use lib.ListN.{length}
 use borrow.Author.Needs.{needs}
@@ -14,22 +15,30 @@ Inv-loop bytes at₀ turns₀ at turns = at ≤ length bytes
 abbrev μ-loop : tie.MeasureT-loop
 μ-loop bytes at₀ turns₀ at turns = turns
 
-abbrev turn : tie.After-moved Inv-loop μ-loop → tie.At-loop Inv-loop μ-loop
+abbrev Turn : Type 0
+Turn = tie.At-loop Inv-loop μ-loop
+
+abbrev start : Turn → tie.Start Inv-loop μ-loop
+start t = search
+
+abbrev Bytes : Turn → List ℕ
+Bytes t = start t .args .bytes .now
+
+abbrev turn : tie.After-moved Inv-loop μ-loop → Turn
 turn c = search
 
-within : (c : tie.After-moved Inv-loop μ-loop) → turn c .loop .at + c .moved .given .0 .0 ≤ length (turn c .before .before .args .bytes .now)
+within : (c : tie.After-moved Inv-loop μ-loop) → turn c .loop .at + c .moved .given .0 .0 ≤ length (Bytes (turn c))
 within c =
-    let w : tie.After-write-some Inv-loop μ-loop = search in let l = turn c .loop in let s = turn c .before .before .args .bytes .now in
-    moved-within (length s) (l .at) _ (l .inv) (length-tail (l .at) s) (w .write-some .result) (w .write-some .ensures) (c .moved .given .0 .0) (c .moved .given .1)
+    let w : tie.After-write-some Inv-loop μ-loop = search in let t = turn c in
+    moved-within (length (Bytes t)) (t .loop .at) _ (t .loop .inv) (length-tail (t .loop .at) (Bytes t)) (w .write-some .result) (w .write-some .ensures) (c .moved .given .0 .0) (c .moved .given .1)
 
 add-at : tie.Need-add-at Inv-loop μ-loop
 add-at c = omega (arith, within (search))
 
 returns : tie.Need-returns Inv-loop μ-loop
 returns c =
-    let m : tie.After-moved2 Inv-loop μ-loop = search in let w : tie.After-write-some Inv-loop μ-loop = search in
-    let t : tie.At-loop Inv-loop μ-loop = search in let s = t .before .before .args .bytes .now in
-    stopped (length s) (t .loop .at) _ (t .loop .inv) (length-tail (t .loop .at) s) (w .write-some .result) (w .write-some .ensures) (m .moved2 .given .0 .0) (m .moved2 .given .1)
+    let m : tie.After-moved2 Inv-loop μ-loop = search in let w : tie.After-write-some Inv-loop μ-loop = search in let t : Turn = search in
+    stopped (length (Bytes t)) (t .loop .at) _ (t .loop .inv) (length-tail (t .loop .at) (Bytes t)) (w .write-some .result) (w .write-some .ensures) (m .moved2 .given .0 .0) (m .moved2 .given .1)
 
 loop-again : tie.Need-loop-again Inv-loop μ-loop
 loop-again c = within (search)

@@ -18,6 +18,9 @@ abbrev μ-loop : tie.MeasureT-loop
 abbrev Back : Type 0
 Back = tie.After-room Inv-loop μ-loop
 
+abbrev read-of : Back → tie.After-read-some Inv-loop μ-loop
+read-of c = search
+
 abbrev turn-of : Back → tie.At-loop Inv-loop μ-loop
 turn-of c = search
 
@@ -25,12 +28,12 @@ abbrev back-of : tie.After-moved Inv-loop μ-loop → Back
 back-of c = search
 
 -- the part that was lent has as many bytes as were left
-left : (c : Back) → length (c .before .read-some .last .0) ≡ length (turn-of c .loop .room) - turn-of c .loop .at
+left : (c : Back) → length (read-of c .read-some .last .0) ≡ length (turn-of c .loop .room) - turn-of c .loop .at
 left c = c .room .given .0 ∙ length-tail (turn-of c .loop .at) (turn-of c .loop .room)
 
 within : (c : tie.After-moved Inv-loop μ-loop) → turn-of (back-of c) .loop .at + c .moved .given .0 .0 ≤ length (turn-of (back-of c) .loop .room)
 within c =
-    let b = back-of c in let l = turn-of b .loop in let read = b .before .read-some in
+    let b = back-of c in let l = turn-of b .loop in let read = read-of b .read-some in
     moved-within (length (l .room)) (l .at) (length (read .last .0)) (l .inv .0) (left b) (read .result) (read .ensures) (c .moved .given .0 .0) (c .moved .given .1)
 
 add-at : tie.Need-add-at Inv-loop μ-loop
@@ -42,7 +45,7 @@ same-length c = let b : Back = search in b .room .given .1 ∙ turn-of b .loop .
 returns : tie.Need-returns Inv-loop μ-loop
 returns c =
     let m : tie.After-moved2 Inv-loop μ-loop = search in let b : Back = search in
-    let l = turn-of b .loop in let read = b .before .read-some in
+    let l = turn-of b .loop in let read = read-of b .read-some in
     rw (b .room .given .1)
     (stopped (length (l .room)) (l .at) (length (read .last .0)) (l .inv .0) (left b) (read .result) (read .ensures) (m .moved2 .given .0 .0) (m .moved2 .given .1))
 
