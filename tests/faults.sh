@@ -71,31 +71,30 @@ fi
 told 'output cut short' 'journal: output: File too large'
 head -c "$(wc -c < "$work/out")" "$work/longest.answers" | cmp -s - "$work/out" && [ -s "$work/out" ]
 count $? 'output cut short: what was written is the start of the answers'
-(trap '' PIPE; "$journal" < "$lines" 2> "$work/err"; echo $? > "$work/status") | true
-status=$(cat "$work/status")
-told 'a pipe that nobody reads' 'journal: output: Broken pipe'
 
-# ---- descriptors that would block: the program waits
+# ---- pipes: one that nobody reads; those that would block, where the program waits
 
-slowly() { # input|output LINES
-  python3 - "$journal" "$1" "$2" "$work/out" "$work/err" << 'PYTHON'
+piped() { # input|output|unread LINES
+  timeout 60 python3 - "$journal" "$1" "$2" "$work/out" "$work/err" << 'PYTHON'
 import os, subprocess, sys, time
 
 journal, side, lines, out, err = sys.argv[1:]
 there, here = os.pipe() if side == "input" else reversed(os.pipe())
 os.set_blocking(there, False)
 with open(lines, "rb") as given, open(out, "wb") as got, open(err, "wb") as told:
+    if side == "unread":
+        os.close(here)
+    ends = (there, got) if side == "input" else (given, there)
+    # SIGPIPE, which would end the program, is ignored here and stays so there
+    program = subprocess.Popen([journal], stdin=ends[0], stdout=ends[1], stderr=told, restore_signals=False)
+    os.close(there)
     if side == "input":
-        program = subprocess.Popen([journal], stdin=there, stdout=got, stderr=told)
-        os.close(there)
         text = given.read()
         for part in (text[:7], text[7:20], text[20:]):
             time.sleep(0.1)
             os.write(here, part)
         os.close(here)
-    else:
-        program = subprocess.Popen([journal], stdin=given, stdout=there, stderr=told)
-        os.close(there)
+    if side == "output":
         time.sleep(0.1)
         while part := os.read(here, 50000):
             got.write(part)
@@ -104,14 +103,16 @@ with open(lines, "rb") as given, open(out, "wb") as got, open(err, "wb") as told
 PYTHON
 }
 if command -v python3 > /dev/null; then
-  slowly input "$lines"; status=$?
+  piped unread "$lines"; status=$?
+  told 'a pipe that nobody reads' 'journal: output: Broken pipe'
+  piped input "$lines"; status=$?
   told 'input that would block' ''
   answered 'input that would block' "$answers"
-  slowly output "$work/longest"; status=$?
+  piped output "$work/longest"; status=$?
   told 'output that would block' ''
   answered 'output that would block' "$work/longest.answers"
 else
-  echo 'not run: descriptors that would block, as there is no python3'
+  echo 'not run: pipes that nobody reads or that would block, as there is no python3'
 fi
 
 # ---- calls that fail or are interrupted on the way, where strace may put such answers in their place
