@@ -1,6 +1,6 @@
 -- What save answers and leaves, and what load finds, case by case.
 use mathlib.Core.Path.{_≡_, refl, sym, ap, _∙_}
-use mathlib.Core.Bool.{Bool, true, false, cond, _&&_}
+use mathlib.Core.Bool.{Bool, true, false, _&&_}
 use mathlib.Core.List.{List, [], _∷_, _++_}
 use Prim.Native.Nat.{ℕ, zero, suc, _-_, _≤_, _<_, min}
 use native.Mathlib.Nat.{min-le-right, not-suc-le-zero, le-of-suc-le-suc}
@@ -10,10 +10,10 @@ use lib.ListN.{length, drop, getD, replicate}
 use Rattle.masks.specs.Bytes.{front}
 use Rattle.masks.proofs.Truth.{T→true, T→false, le→nltb}
 use Rattle.model.specs.declared.Register.{Register}
-use Rattle.model.specs.State.{capabilityAt, blankCapability, fresh}
+use Rattle.model.specs.State.{capabilityAt, blankCapability}
 use Rattle.model.specs.Rules.{wellFormed}
-use Rattle.model.specs.Rulings.{Outcome, value, refused, settle}
-use Rattle.model.specs.Image.{readCapabilities, afterChosen, encode, decode, loads, saveEffect, savedBuffer}
+use Rattle.model.specs.Rulings.{Outcome, value, refused, Effect, settle}
+use Rattle.model.specs.Image.{readCapabilities, afterChosen, encode, decode, loads, saveEffect, savedBuffer, loadEffect}
 use Rattle.rules.specs.Columns.{BlankFrom}
 use Rattle.fields.specs.Codes.{Bytes}
 use Rattle.decoding.specs.Exact.{exactImage}
@@ -54,6 +54,14 @@ getD-past [] (suc k) (suc n) d h = getD-past [] k n d (omega arith)
 getD-past (x ∷ l) k zero d h = absurd (not-suc-le-zero h)
 getD-past (x ∷ l) k (suc n) d h = getD-past l k n d (le-of-suc-le-suc h)
 
+abbrev effect : Outcome → Register → Effect Register
+effect o q = record { answer = o; after = q }
+
+-- refused, load leaves the register before it
+pub load-refused : (s : List ℕ) (before : Register) → loads s ≡ false → effect (refused 14) before ≡ loadEffect before s
+unfolding loadEffect settle
+load-refused s before e = rw e
+
 module _ (s : List ℕ) (r : Register) (read : r ≡ decode s) where
   -- the places past the count are blank
   pub read-blank : r .count ≤ 256 → BlankFrom r (r .count)
@@ -68,9 +76,32 @@ module _ (s : List ℕ) (r : Register) (read : r ≡ decode s) where
   pub load-tested : Bytes s → (formed exact : Bool) → formed ≡ wellFormed r → exact ≡ exactImage s → loads s ≡ (formed && exact)
   load-tested b formed exact ef ee = loads-exact s b ∙ rw (← read, ← ef, ← ee)
 
-  -- what load answers where s is not an image, and where it is
-  pub load-none : (ok : Bool) (q : Register) → loads s ≡ false → ok ≡ false → q ≡ fresh → (ok ≡ loads s) × (q ≡ cond (loads s) (decode s) fresh)
-  load-none ok q e f g = (f ∙ sym e, g ∙ sym (ap (λ (b : Bool). cond b (decode s) fresh) e))
+  -- accepted, load leaves what was read
+  pub load-accepted : (before : Register) → loads s ≡ true → effect (value 0) r ≡ loadEffect before s
+  unfolding loadEffect settle
+  load-accepted before e = rw e (ap (effect (value 0)) read)
 
-  pub load-some : loads s ≡ true → (true ≡ loads s) × (r ≡ cond (loads s) (decode s) fresh)
-  load-some e = (sym e, read ∙ sym (ap (λ (b : Bool). cond b (decode s) fresh) e))
+-- what the answer of load says of the bytes
+module _ (r : Register) (s : List ℕ) where
+  abbrev answered : Outcome
+  answered = (loadEffect r s) .answer
+
+  apart : (v n : ℕ) → value v ≡ refused n → ⊥
+  apart v n e = let z : _≡_ {A = ℕ} 0 1 = cc in omega arith
+
+  answer-is : {o : Outcome} {q : Register} → effect o q ≡ loadEffect r s → o ≡ answered
+  answer-is e = ap (λ (x : Effect Register). x .answer) e
+
+  pub load-said : (v : ℕ) → value v ≡ answered → (loads s ≡ true) × ((loadEffect r s) .after ≡ decode s)
+  load-said v h = cases (loads s) refl
+    where
+      cases : (b : Bool) → loads s ≡ b → (loads s ≡ true) × ((loadEffect r s) .after ≡ decode s)
+      cases true e = (e, sym (ap (λ (x : Effect Register). x .after) (load-accepted s (decode s) refl r e)))
+      cases false e = absurd (apart v 14 (h ∙ sym (answer-is (load-refused s r e))))
+
+  pub load-unsaid : (n : ℕ) → refused n ≡ answered → loads s ≡ false
+  load-unsaid n h = cases (loads s) refl
+    where
+      cases : (b : Bool) → loads s ≡ b → loads s ≡ false
+      cases true e = absurd (apart 0 n (answer-is (load-accepted s (decode s) refl r e) ∙ sym h))
+      cases false e = e

@@ -1,12 +1,10 @@
 // The image of the register: document 01, "The image", and the calls save and load.
 ghost use mathlib.Core.Path.{_≡_};
-ghost use mathlib.Core.Bool.{false, cond};
 ghost use lib.Dec.{T};
 ghost use lib.ListN.{length};
-ghost use Rattle.model.specs.State.{fresh};
 ghost use Rattle.model.specs.Rules.{wellFormed};
-ghost use Rattle.model.specs.Requests.{outcomeOf};
-ghost use Rattle.model.specs.Image.{decode, loads, saveEffect, savedBuffer};
+ghost use Rattle.model.specs.Requests.{outcomeOf, effectOf};
+ghost use Rattle.model.specs.Image.{decode, loads, saveEffect, savedBuffer, loadEffect};
 use buffers::put_bytes;
 use decoding::ReadImage;
 use decoding::read_image;
@@ -14,6 +12,7 @@ use encoding::put_image;
 use model::Answer;
 use model::Refusal;
 use model::Register;
+use model::Reply;
 use rules::well_formed;
 use rules::well_formed_read;
 
@@ -46,21 +45,6 @@ pub fn save(r: Register, buffer: &mut [u8]) -> Answer
     save_trusted(r, buffer)
 }
 
-pub struct Loaded {
-    pub ok: bool,
-    pub register: Register,
-}
-
-// Not an image.
-fn not_loaded() -> Loaded
-    ensures { λ q. ⌜ (q .ok ≡ false) × (q .register ≡ fresh) ⌝ }
-{
-    Loaded {
-        ok: false,
-        register: model::fresh(),
-    }
-}
-
 // The register in an image, and whether the bytes are one: `exact` is the whole test of load here. Where they are not, the register
 // is what was read of them, and not to be used.
 pub fn read_checked(s: &[u8]) -> ReadImage
@@ -73,16 +57,22 @@ pub fn read_checked(s: &[u8]) -> ReadImage
     read
 }
 
-// "load an image. 14 only: not exactly the layout below, a number out of range, or a shelf rule broken." What is loaded is the
-// register whose image it is; else it is not ok, and the register is fresh.
-pub fn load(s: &[u8]) -> Loaded
-    ensures { λ q. ⌜ (q .ok ≡ loads (now (s .entry))) × (q .register ≡ cond (loads (now (s .entry))) (decode (now (s .entry))) fresh) ⌝ }
+// "load an image. 14 only: not exactly the layout below, a number out of range, or a shelf rule broken." Refused, the register
+// stays as it was.
+pub fn load(r: Register, s: &[u8]) -> Reply
+    ensures { λ q. ⌜ effectOf q ≡ loadEffect r (now (s .entry)) ⌝ }
 {
     let read = read_checked(s);
     let exact = read.exact;
-    if !exact {
-        return not_loaded();
-    }
     let register = read.register;
-    Loaded { ok: true, register }
+    if !exact {
+        return Reply {
+            answer: Answer::Refused(Refusal::Image),
+            register: r,
+        };
+    }
+    Reply {
+        answer: Answer::Value(0),
+        register,
+    }
 }

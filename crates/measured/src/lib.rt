@@ -3,6 +3,8 @@
 ghost use mathlib.Core.Path.{_≡_};
 ghost use Rattle.measured.specs.Measured.{playedLength, playedBuffer};
 use image::load;
+use model::Answer;
+use model::fresh;
 use player::journal;
 
 // Plays the lines on the register whose image is given and prints the answers into the output; it returns how many bytes they take.
@@ -11,11 +13,12 @@ use player::journal;
 pub extern "C" fn measured_play(image: &[u8], lines: &[u8], out: &mut [u8]) -> usize
     ensures { λ q. ⌜ (q ≡ playedLength (now (image .entry)) (now (lines .entry)) (now (out .entry))) × (now (out .exit) ≡ playedBuffer (now (image .entry)) (now (lines .entry)) (now (out .entry))) ⌝ }
 {
-    let loaded = load(image);
-    let ok = loaded.ok;
-    if !ok {
+    let none = fresh();
+    let loaded = load(none, image);
+    let answer = loaded.answer;
+    let Answer::Value(_) = answer else {
         return 0;
-    }
+    };
     let register = loaded.register;
     journal(register, lines, out)
 }

@@ -2,7 +2,7 @@
 use mathlib.Core.Path.{sym, _∙_}
 use borrow.Author.Needs.{needs}
 use borrow.Author.Tests.{not-true, not-false}
-use Rattle.image.proofs.Calls.{load-none, load-some}
+use Rattle.image.proofs.Calls.{load-refused, load-accepted}
 use Rattle.image.proofs.load.Statement.{statement}
 use Rattle.image.proofs.load.Tie as tie
 
@@ -12,7 +12,7 @@ returns c =
     let after-read-checked : tie.After-read-checked = search in
     let s = start .args .s .now in
     let read = after-read-checked .read-checked in
-    load-none s _ (read .ensures .1) _ _ (sym (read .ensures .0) ∙ not-true (read .result .exact) (search)) (c .not-loaded .ensures .0) (search)
+    load-refused s (start .args .r) (sym (read .ensures .0) ∙ not-true (read .result .exact) (search))
 
 returns-2 : tie.Need-returns-2
 returns-2 c =
@@ -20,7 +20,7 @@ returns-2 c =
     let after-read-checked : tie.After-read-checked = search in
     let s = start .args .s .now in
     let read = after-read-checked .read-checked in
-    load-some s _ (read .ensures .1) (sym (read .ensures .0) ∙ not-false (read .result .exact) (search))
+    load-accepted s _ (read .ensures .1) (start .args .r) (sym (read .ensures .0) ∙ not-false (read .result .exact) (search))
 
 pub load-spec : {M : Type 1} → statement M
-load-spec = tie.close (tie.spec (λ c κs. search needs) (λ c κs. search needs) returns returns-2)
+load-spec = tie.close (tie.spec (λ c κs. search needs) returns returns-2)
