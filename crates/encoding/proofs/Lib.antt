@@ -3,3 +3,4 @@ pub mod Turns
 pub mod Putting
 pub mod Marking
 pub mod Whole
+pub mod Lengths

@@ -19,6 +19,7 @@ use model::Register;
 use model::Role;
 use model::Session;
 
+pub mod length;
 mod section;
 
 // "map of enrolled users (8), a domain byte each"; the bytes written.

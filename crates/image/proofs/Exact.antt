@@ -27,7 +27,7 @@ use Rattle.fields.proofs.Reading.{bytes-drop, mask-small}
 use Rattle.fields.proofs.ExactFields.{first-join, first-all, number-again, map-again}
 use Rattle.records.proofs.ExactRecords.{capabilities-at, capabilities-again}
 use Rattle.records.proofs.ExactWriting.{capabilities-exact, capabilities-length}
-use Rattle.image.proofs.Length.{image-size}
+use Rattle.encoding.proofs.Lengths.{image-size}
 use Rattle.image.proofs.RoundTrip.{sessionsPart, created, capabilitiesPart, rolesPart, usersPart, users, roles, sessions, amount, ranges, count-back, few, count-drop, created-after}
 use Rattle.image.proofs.ExactSections.{domains-again, roles-again, sessions-again, founded-again, active-again, sessions-whole}
 

@@ -24,7 +24,7 @@ use Rattle.records.proofs.Records.{session-size}
 use Rattle.records.proofs.ExactRecords.{role-again, session-again}
 use Rattle.records.proofs.ExactWriting.{session-exact}
 use Rattle.decoding.proofs.Decoding.{readDomain}
-use Rattle.image.proofs.Sections.{item-length}
+use Rattle.encoding.proofs.Lengths.{item-length}
 
 -- ---- a section read and written again
 
@@ -110,7 +110,7 @@ sessions-exact m [] rest = tt
 sessions-exact m (x ∷ l) rest =
     let s : List ℕ = writeChosen writeSession (m / 2) l ++ rest in
     let two : m % 2 < 2 = omega arith in
-    rw (append-assoc (chosen (m % 2) (writeSession x)) (writeChosen writeSession (m / 2) l) rest, drop-at (chosen (m % 2) (writeSession x)) s (m % 2 * 6) (item-length blankSession writeSession readSession 6 session-size (m % 2) x two))
+    rw (append-assoc (chosen (m % 2) (writeSession x)) (writeChosen writeSession (m / 2) l) rest, drop-at (chosen (m % 2) (writeSession x)) s (m % 2 * 6) (item-length writeSession 6 session-size (m % 2) x two))
     (and-i (itemOr true exactSession (m % 2) (chosen (m % 2) (writeSession x) ++ s)) (exactSessions (m / 2) (length l) s) (by-bit (m % 2) s) (sessions-exact (m / 2) l rest))
   where
     by-bit : (b : ℕ) (s : List ℕ) → T (itemOr true exactSession b (chosen b (writeSession x) ++ s))

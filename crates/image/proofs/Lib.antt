@@ -1,6 +1,5 @@
 -- Laws of sections and of whole images, written and read again; the round trip.
 pub mod Sections
-pub mod Length
 pub mod RoundTrip
 pub mod ExactSections
 pub mod Exact

@@ -23,10 +23,11 @@ use Rattle.model.specs.Image.{writeChosen, writeCapabilities, readChosen, readC
 use Rattle.model.proofs.Rules.{formed→}
 use Rattle.image.specs.Laws.{ImageOf, ImageLaws}
 use Rattle.fields.proofs.Numbers.{length-bytes, length-map, number-back, map-item, same-refl}
-use Rattle.records.proofs.Records.{domain-good, role-good, role-size, session-good, session-size, AllInRange, in-range, capabilities-back, capabilities-after, capabilities-small}
+use Rattle.records.proofs.Records.{domain-good, role-good, role-size, session-good, session-size, AllInRange, in-range, capabilities-back, capabilities-after}
 use Rattle.encoding.proofs.Turns.{where-small}
+use Rattle.encoding.proofs.Lengths.{image-small}
 use Rattle.decoding.proofs.Decoding.{readDomain, registerOf, same-register}
-use Rattle.image.proofs.Sections.{Kept, kept, Section, section-back, has-where, chosen-small}
+use Rattle.image.proofs.Sections.{Kept, kept, Section, section-back, has-where}
 
 -- ---- the sections of an image, each with all that follows it
 
@@ -195,15 +196,6 @@ pub image-length : (r : Register) → 26 ≤ length (encode r)
 unfolding encode
 image-length r =
     simp (length-append, length-map) (omega arith)
-
-pub image-small : (r : Register) → WellFormed r → length (encode r) ≤ 13402
-unfolding encode
-image-small r h =
-    let u : length (writeChosen (bytesOf 1) (r .enrolled) (r .domains)) ≤ 1 * length (r .domains) = chosen-small 0 (bytesOf 1) readDomain 1 (length-bytes 1) (r .enrolled) (r .domains) in
-    let x : length (writeChosen writeRole (foundedRoles (r .roles)) (r .roles)) ≤ 20 * length (r .roles) = chosen-small blankRole writeRole readRole 20 role-size (foundedRoles (r .roles)) (r .roles) in
-    let c : length (writeCapabilities (take (r .count) (r .capabilities))) ≤ 48 * length (take (r .count) (r .capabilities)) = capabilities-small (take (r .count) (r .capabilities)) in
-    let s : length (writeChosen writeSession (activeSessions (r .sessions)) (r .sessions)) ≤ 6 * length (r .sessions) = chosen-small blankSession writeSession readSession 6 session-size (activeSessions (r .sessions)) (r .sessions) in
-    simp (length-append, length-map) (omega (arith, amount r h, h .count, h .user-places, h .role-places, h .session-places))
 
 -- ---- what is accepted
 

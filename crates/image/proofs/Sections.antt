@@ -3,11 +3,11 @@
 use mathlib.Core.Path.{_≡_, refl, sym, ap, _∙_}
 use mathlib.Core.Bool.{Bool, true, false, not}
 use mathlib.Core.List.{List, [], _∷_, _++_, append-assoc}
-use Prim.Native.Nat.{ℕ, zero, suc, _+_, _*_, _/_, _%_, _^_, _≤_, _<_}
-use native.Mathlib.Nat.{zero-mul, one-mul, div-div-eq-div-mul, pow-succ', div-one, not-suc-le-zero, le-of-suc-le-suc}
+use Prim.Native.Nat.{ℕ, zero, suc, _+_, _*_, _/_, _%_, _^_, _<_}
+use native.Mathlib.Nat.{div-div-eq-div-mul, pow-succ', div-one, not-suc-le-zero, le-of-suc-le-suc}
 use native.Mathlib.Omega.{arith}
 use lib.Dec.{T, eqb}
-use lib.ListN.{length, drop, getD, length-append}
+use lib.ListN.{length, drop, getD}
 use lib.Seq.{drop-at, drop-drop}
 use Rattle.masks.specs.Masks.{has}
 use Rattle.masks.specs.Bytes.{mapBytes}
@@ -15,7 +15,7 @@ use Rattle.model.specs.Fields.{bit}
 use Rattle.model.specs.Image.{maskWhere, chosen, writeChosen, itemOr, readChosen, chosenLength, mapAt, afterChosen}
 use Rattle.fields.proofs.Numbers.{length-map, map-back}
 use Rattle.records.proofs.Records.{Good}
-use Rattle.encoding.proofs.Turns.{bit-le}
+use Rattle.encoding.proofs.Lengths.{bit-here, bits-after, item-length, chosen-length}
 
 -- ---- the bits of a mask from the lowest on
 
@@ -28,12 +28,6 @@ unfolding has
 has-first m = ap (λ (x : ℕ). eqb (x % 2) 1) (div-one m)
 
 -- ---- the mask of the items that pass
-
-bit-here : (b : Bool) (m : ℕ) → (bit b + 2 * m) % 2 ≡ bit b
-bit-here b m = omega (arith, bit-le b)
-
-bits-after : (b : Bool) (m : ℕ) → (bit b + 2 * m) / 2 ≡ m
-bits-after b m = omega (arith, bit-le b)
 
 bit-test : (b : Bool) → eqb (bit b) 1 ≡ b
 bit-test true = refl
@@ -79,34 +73,14 @@ module _ {A : Type 0} (blank : A) (write : A → List ℕ) (read : List ℕ → 
   item-back (suc b) a rest h = h rest
 
   module _ (w : ℕ) (sizes : (a : A) → length (write a) ≡ w) where
-    pub item-length : (b : ℕ) (a : A) → b < 2 → length (chosen b (write a)) ≡ b * w
-    item-length zero a l = sym (zero-mul w)
-    item-length (suc zero) a l = sizes a ∙ sym (one-mul w)
-    item-length (suc (suc b)) a l = absurd (too-large b l)
-
     chosen-back : (m : ℕ) (l : List A) (rest : List ℕ) → Kept m l
         → readChosen blank read w m (length l) (writeChosen write m l ++ rest) ≡ l
     chosen-back m [] rest h = refl
     chosen-back m (a ∷ l) rest h =
         let more : List ℕ = writeChosen write (m / 2) l ++ rest in
         let b : m % 2 < 2 = omega arith in
-        rw (append-assoc (chosen (m % 2) (write a)) (writeChosen write (m / 2) l) rest, item-back (m % 2) a more (h .0), drop-at (chosen (m % 2) (write a)) more (m % 2 * w) (item-length (m % 2) a b))
+        rw (append-assoc (chosen (m % 2) (write a)) (writeChosen write (m / 2) l) rest, item-back (m % 2) a more (h .0), drop-at (chosen (m % 2) (write a)) more (m % 2 * w) (item-length write w sizes (m % 2) a b))
         (ap (λ (t : List A). a ∷ t) (chosen-back (m / 2) l rest (h .1)))
-
-    -- the bytes of the items of a mask
-    pub chosen-length : (m : ℕ) (l : List A) → chosenLength w m (length l) ≡ length (writeChosen write m l)
-    chosen-length m [] = refl
-    chosen-length m (a ∷ l) =
-        let b : m % 2 < 2 = omega arith in
-        rw length-append (omega (arith, item-length (m % 2) a b, chosen-length (m / 2) l))
-
-    pub chosen-small : (m : ℕ) (l : List A) → length (writeChosen write m l) ≤ w * length l
-    chosen-small m [] = omega arith
-    chosen-small m (a ∷ l) = rw length-append (omega (arith, chosen-le (m % 2), chosen-small (m / 2) l))
-      where
-        chosen-le : (b : ℕ) → length (chosen b (write a)) ≤ w
-        chosen-le zero = omega arith
-        chosen-le (suc b) = omega (arith, sizes a)
 
     -- the map of a section, the section, and what follows it
     pub record Section (v k m : ℕ) (l : List A) (rest s : List ℕ) : Type 0 where
@@ -120,7 +94,7 @@ module _ {A : Type 0} (blank : A) (write : A → List ℕ) (read : List ℕ → 
         let body : List ℕ = writeChosen write m l ++ rest in
         let em : mapAt v s ≡ m = ap (mapAt v) es ∙ map-back v m body small in
         let ed : drop v s ≡ body = ap (drop v) es ∙ drop-at (mapBytes v m) body v (length-map v m) in
-        let el : chosenLength w (mapAt v s) k ≡ length (writeChosen write m l) = rw (em, ← ek) (chosen-length m l) in
+        let el : chosenLength w (mapAt v s) k ≡ length (writeChosen write m l) = rw (em, ← ek) (chosen-length write w sizes m l) in
         record {
           mask = em;
           items = rw (em, ed, ← ek) (chosen-back m l rest h);

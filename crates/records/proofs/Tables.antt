@@ -19,7 +19,8 @@ use Rattle.records.specs.Exact.{exactCapability}
 use Rattle.fields.proofs.Parts.{parts-written}
 use Rattle.fields.proofs.Putting.{Put}
 use Rattle.fields.proofs.Reading.{bytes-drop, fitted-all, fitted-present}
-use Rattle.records.proofs.Records.{head-size}
+use Rattle.fields.proofs.Fields.{present-length}
+use Rattle.records.proofs.Records.{head-size, capability-small}
 
 -- a table says what the codings are, and no field of it has more than 8 bytes
 pub record Says (codes : List ℕ) (cs : List Coding) : Type 0 where
@@ -104,6 +105,15 @@ head-length c = head-size c
 
 pub capability-size : (c : Capability) → length (writeCapability c) ≡ 5 + length (writeFields c)
 capability-size c = ap length (capability-parts c) ∙ length-append (writeHead c) (writeFields c) ∙ rw head-length
+
+-- the same by the map of the fields
+pub capability-counted : (c : Capability) {codes values : List ℕ} {m n : ℕ} → codes ≡ capabilityCodes → values ≡ capabilityFields c → m ≡ fieldMap values
+    → n ≡ presentLength m (codings codes) → (5 + n ≡ length (writeCapability c)) × (5 + n ≤ 48)
+unfolding writeFields
+capability-counted c {codes} {values} {m} {n} ec ev em en =
+    let there : n ≡ presentLength (fieldMap (capabilityFields c)) capabilityCodings = en ∙ rw (em, ev, ec, capability-codes .same) in
+    let size : 5 + n ≡ length (writeCapability c) = omega (arith, there, present-length capabilityCodings (capabilityFields c), capability-size c) in
+    (size, omega (arith, size, capability-small c))
 
 pub capability-written : (c : Capability) (s : List ℕ) {t last : List ℕ} {n : ℕ} → 5 + length (writeFields c) ≤ length s → t ≡ front (writeHead c) s
     → Put (writeFields c) 5 t n last → (5 + n ≡ length (writeCapability c)) × (putMid 5 (length t - 5) t last ≡ front (writeCapability c) s)

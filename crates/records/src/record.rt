@@ -6,6 +6,7 @@ ghost use Rattle.masks.specs.Bytes.{front};
 ghost use Rattle.model.specs.Fields.{kindOf, indexOf, bit, fieldMap, roleFields, writeRole, sessionFields, writeSession, capabilityFields, headFields, writeCapability};
 ghost use Rattle.records.specs.Codes.{roleCodes, sessionCodes, headCodes, capabilityCodes, writeHead};
 use fields::field::field_map;
+use fields::field::present_length;
 use fields::field::put_all;
 use fields::field::put_present;
 use model::Capability;
@@ -163,4 +164,13 @@ pub fn put_capability(s: &mut [u8], c: Capability) -> usize
     put_head(s, c, field_map(&values));
     let n = put_present(&mut s[5..], &codes, &values);
     5 + n
+}
+
+// The bytes of a capability, of which none is written.
+pub fn capability_length(c: Capability) -> usize
+    ensures { λ q. ⌜ q ≡ length (writeCapability c) ⌝ }
+{
+    let values = capability_fields(c);
+    let codes = capability_codes();
+    5 + present_length(field_map(&values), &codes)
 }

@@ -9,7 +9,7 @@ use Rattle.masks.specs.Bytes.{front}
 use Rattle.model.specs.Image.{encode}
 use Rattle.model.proofs.Rules.{formed→}
 use Rattle.fields.proofs.Parts.{take-front}
-use Rattle.image.proofs.RoundTrip.{image-small}
+use Rattle.encoding.proofs.Lengths.{image-small}
 use Rattle.image.proofs.Calls.{save-short, save-done}
 use borrow.Author.Needs.{needs}
 use Rattle.image.proofs.save_trusted.Statement.{statement}
