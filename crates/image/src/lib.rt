@@ -5,9 +5,9 @@ ghost use lib.ListN.{length};
 ghost use Rattle.model.specs.Rules.{wellFormed};
 ghost use Rattle.model.specs.Requests.{outcomeOf, effectOf};
 ghost use Rattle.model.specs.Image.{decode, loads, saveEffect, savedBuffer, loadEffect};
-use buffers::put_bytes;
 use decoding::ReadImage;
 use decoding::read_image;
+use encoding::length::image_length;
 use encoding::put_image;
 use model::Answer;
 use model::Refusal;
@@ -16,21 +16,22 @@ use model::Reply;
 use rules::well_formed;
 use rules::well_formed_read;
 
-// Saves a register that keeps the rules, without testing them. A buffer that may be too short gets the image by way of another.
+// Saves a register that keeps the rules, without testing them. Whether there is room is decided before anything is written, by the
+// most that the image can have or else by its length.
 pub fn save_trusted(r: Register, buffer: &mut [u8]) -> Answer
     requires { ⌜ T (wellFormed r) ⌝ }
     ensures { λ q. ⌜ (outcomeOf q ≡ (saveEffect r (length (now (buffer .entry)))) .answer) × (now (buffer .exit) ≡ savedBuffer r (now (buffer .entry)) ((saveEffect r (length (now (buffer .entry)))) .answer)) ⌝ }
 {
-    if 13402 <= buffer.len() {
+    let most = 1114 + 48 * r.count as usize;
+    if most <= buffer.len() {
         let n = put_image(buffer, r);
         return Answer::Value(n as u32);
     }
-    let mut image = [0u8; 13402];
-    let n = put_image(&mut image, r);
+    let n = image_length(r);
     if buffer.len() < n {
         return Answer::Refused(Refusal::Room);
     }
-    put_bytes(buffer, &image[..n]);
+    put_image(buffer, r);
     Answer::Value(n as u32)
 }
 
