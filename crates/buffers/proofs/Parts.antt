@@ -6,7 +6,7 @@ use native.Mathlib.Nat.{pow-zero, pow-suc, div-div-eq-div-mul, div-one, sub-self
 use native.Mathlib.Numerals.{sub-one, add-one}
 use native.Mathlib.Omega.{arith}
 use lib.ListN.{length, take, drop, getD, set, length-drop, length-append, take-append-drop, drop-of-length-le}
-use lib.Seq.{drop-cons, take-suc, append-snoc, set-at, set-split, take-at, drop-at, drop-drop, take-all, length-take-le}
+use lib.Seq.{take-suc, append-snoc, set-at, set-split, take-at, drop-at, drop-drop, take-all, length-take-le}
 use borrow.Rule.Slice.PartMut.{putMid}
 use Rattle.masks.specs.Bytes.{front}
 
@@ -56,17 +56,6 @@ placed-set i v ys s h =
 
 pub placed-nil : (at : ℕ) (s : List ℕ) → placed at [] s ≡ s
 placed-nil at s = take-append-drop at s
-
--- a loop that copies xs: where its bytes from i on, put there, give `whole`
-module _ (xs s : List ℕ) (i : ℕ) (whole : List ℕ) (e : placed i (drop i xs) s ≡ whole) where
-  pub copy-step : (t : List ℕ) → i < length xs → length xs ≤ length t → length s ≡ length t
-      → placed (i + 1) (drop (i + 1) xs) (set s i (getD xs i 0)) ≡ whole
-  copy-step t h g l =
-      let rest : getD xs i 0 ∷ drop (i + 1) xs ≡ drop i xs = rw add-one (sym (drop-cons xs i 0 h)) in
-      placed-set i (getD xs i 0) (drop (i + 1) xs) s (omega arith) ∙ ap (λ (r : List ℕ). placed i r s) rest ∙ e
-
-  pub copy-done : length xs ≤ i → s ≡ whole
-  copy-done h = sym (placed-nil i s) ∙ ap (λ (r : List ℕ). placed i r s) (sym (drop-of-length-le xs h)) ∙ e
 
 length-drop-le : (at : ℕ) (s : List ℕ) → length (drop at s) ≤ length s - at
 length-drop-le at s = rw length-drop (le-refl _)

@@ -1,8 +1,6 @@
-// Bytes compared and copied. The laws of writing into parts of a buffer stand in this crate too.
+// Bytes compared. The laws of writing into parts of a buffer stand in this crate too.
 ghost use mathlib.Core.Path.{_≡_};
-ghost use Prim.Native.Nat.{_≤_};
-ghost use lib.ListN.{length};
-ghost use Rattle.masks.specs.Bytes.{front, sameBytes};
+ghost use Rattle.masks.specs.Bytes.{sameBytes};
 
 // Whether two slices have the same bytes.
 pub fn same_bytes(a: &[u8], b: &[u8]) -> bool
@@ -19,16 +17,4 @@ pub fn same_bytes(a: &[u8], b: &[u8]) -> bool
         i += 1;
     }
     true
-}
-
-// Writes bytes at the front of s.
-pub fn put_bytes(s: &mut [u8], bytes: &[u8])
-    requires { ⌜ length (now bytes) ≤ length (now s) ⌝ }
-    ensures { λ _. ⌜ now (s .exit) ≡ front (now (bytes .entry)) (now (s .entry)) ⌝ }
-{
-    let mut i = 0;
-    while i < bytes.len() {
-        s[i] = bytes[i];
-        i += 1;
-    }
 }

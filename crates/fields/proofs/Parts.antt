@@ -6,7 +6,7 @@ use native.Mathlib.Nat.{pow-suc, pow-le-pow-right, sub-zero, zero-add, add-zero}
 use native.Mathlib.Numerals.{add-one}
 use native.Mathlib.Omega.{arith}
 use lib.ListN.{length, take, drop, getD, set, replicate, length-append}
-use lib.Seq.{take-suc-set, drop-set-lt, append-snoc, take-at, drop-drop, take-all}
+use lib.Seq.{take-suc-set, drop-set-lt, append-snoc, drop-drop, take-all}
 use lib.Arith.{digits-lt}
 use lib.Dec.{lit<}
 use borrow.Rule.Slice.PartMut.{putMid}
@@ -68,12 +68,6 @@ rest-step {A} f i k v d e h =
     let n : k - i ≡ suc (k - (i + 1)) = omega arith in
     let one : drop (i + 1) f ≡ drop 1 (drop i f) = sym (drop-drop 1 i f) in
     drop-set-lt (i + 1) f i v (omega arith) ∙ one ∙ ap (drop 1) (e ∙ ap (λ (j : ℕ). replicate j d) n)
-
--- ---- comparing
-
--- what was written at the front is there again
-pub take-front : (xs s last : List ℕ) (n : ℕ) → last ≡ front xs s → n ≡ length xs → take n last ≡ xs
-take-front xs s last n e h = ap (take n) e ∙ take-at xs (drop (length xs) s) n (sym h)
 
 -- ---- maps, byte by byte
 
