@@ -4,7 +4,6 @@ use mathlib.Core.Path.{_≡_, refl, ap, ap₂, _∙_}
 use mathlib.Core.List.{List, [], _∷_, _++_}
 use Prim.Native.Nat.{ℕ}
 use lib.Count.{ones, onesIn}
-use lib.ListN.{drop}
 use Rattle.masks.specs.Masks.{has, within, including, excluding, joined}
 use Rattle.masks.specs.Tests.{allBelow, countBelow, allFrom, mapFrom, rising}
 use Rattle.model.specs.declared.Register.{Register}
@@ -22,7 +21,7 @@ use Rattle.model.specs.Fields.{roleCodings, roleFields, writeRole, roleO
 use Rattle.model.specs.Image.{foundedRoles, activeSessions, encode, decode, loads, loadEffect}
 use Rattle.model.specs.Lists.{perform, answers, calls}
 use Rattle.model.specs.Theorem.{FreshStart}
-use Rattle.model.specs.Edges.{Answered, Edges}
+use Rattle.model.specs.Edges.{Exchange, asked, got, Answered, Edges}
 use Rattle.model.proofs.Settling.{step-settled}
 use Rattle.model.proofs.Kept.{Kept}
 use Rattle.model.proofs.Rules.{kept→, kept←}
@@ -47,7 +46,7 @@ unfolding calls-compute rules-compute
 fresh-formed = tt
 
 -- the answers, without the test of the rules
-quick : Register → List Call → List Outcome
+unfoldable pub quick : Register → List Call → List Outcome
 quick r [] = []
 quick r (c ∷ cs) = (settled r c) .answer ∷ quick ((settled r c) .after) cs
 
@@ -60,8 +59,8 @@ answers-quick r (c ∷ cs) k =
     (ap (λ (q : Effect Register). q .answer) (step-settled r c (kept← r k)))
     (answers-quick ((step r c) .after) cs (step-keeps r c k) ∙ ap (λ (q : Effect Register). quick (q .after) cs) (step-settled r c (kept← r k)))
 
-computed : {n : ℕ} {cs : List Call} {out : List Outcome} → drop n (quick fresh cs) ≡ out → Answered n cs out
-computed {n} {cs} e = record { answered = ap (drop n) (answers-quick fresh cs (kept→ fresh fresh-formed)) ∙ e }
+pub computed : {xs : List Exchange} → quick fresh (asked xs) ≡ got xs → Answered xs
+computed {xs} e = record { answered = answers-quick fresh (asked xs) (kept→ fresh fresh-formed) ∙ e }
 
 pub edges : Edges
 unfolding calls-compute rules-compute image-compute quick perform
