@@ -26,3 +26,4 @@ pub mod Revokes
 pub mod ListTheorem
 pub mod Edges
 pub mod Listing
+pub mod Cases

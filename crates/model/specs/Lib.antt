@@ -22,3 +22,4 @@ pub mod Lists
 pub mod Theorem
 pub mod Edges
 pub mod Listing
+pub mod Cases

@@ -1,0 +1,177 @@
+-- Worked cases of the calls, beside those of `Edges.antt`: each pins a sentence of document 01 that no theorem speaks of.
+-- The answers were worked out from the document by hand. `proofs/Cases.antt` proves them.
+use mathlib.Core.Path.{_≡_}
+use mathlib.Core.List.{List, [], _∷_, _++_}
+use Prim.Native.Nat.{ℕ}
+use Rattle.model.specs.declared.Origin.{Origin}
+use Rattle.model.specs.declared.Origin.the-variants.{Role as ofRole, Capability as ofCapability}
+use Rattle.model.specs.declared.Role.{Role}
+use Rattle.model.specs.declared.Capability.{Capability}
+use Rattle.model.specs.State.{contextOf, newCapability}
+use Rattle.model.specs.Setters.{withAppointed}
+use Rattle.model.specs.Rulings.{value, refused, ruled}
+use Rattle.model.specs.Administration.{newRole, appointing}
+use Rattle.model.specs.Delegation.{giving}
+use Rattle.model.specs.Revocation.{raise, lower}
+use Rattle.model.specs.Calls.{Call, enrol, found, grant, withdraw, appoint, dismiss, clock, create, allow, lend, hand, opening, check, amend, revoke, close, same}
+use Rattle.model.specs.Edges.{Exchange, _gets_, Answered, plan, create-3, open-0, staffed, issued, held}
+
+-- a user creates, or opens a session, in the context 9 0 0; the new capability has the limits 9
+abbrev create-by : (user : ℕ) → Origin → Call
+create-by user o = create user o (contextOf 9 0 0) (plan 9 9 9)
+
+abbrev open-by : (session user : ℕ) → Origin → Call
+open-by session user o = opening session user o (contextOf 9 0 0)
+
+-- role 1 of `staffed` in domain 0, and its like in domain 1 with user 4: role 2
+abbrev pub two-domains : List Exchange
+two-domains =
+    staffed
+    ++ (enrol 4 1 gets value 0
+    ∷ found 2 1 16777215 65535 65535 gets value 0
+    ∷ grant 2 0 gets value 0
+    ∷ grant 2 4 gets value 0
+    ∷ appoint 4 2 gets value 0
+    ∷ [])
+
+-- a role of domain 0 with user 3 appointed
+abbrev pub staffed-role : Role
+staffed-role = withAppointed (newRole 0 16777215 65535 65535) 8
+
+-- a capability that user 3 created from role 1
+abbrev pub made : Capability
+made = newCapability 3 (ofRole 1) (plan 9 9 9)
+
+pub record CallCases : Type 0 where
+  -- where the call would change nothing: 4 of enrol, found, grant, withdraw, appoint, dismiss
+  pub unchanged : Answered (staffed
+      ++ (enrol 3 1 gets refused 4
+      ∷ found 1 1 0 0 0 gets refused 4
+      ∷ grant 1 4 gets refused 4
+      ∷ withdraw 1 5 gets refused 4
+      ∷ appoint 3 1 gets refused 4
+      ∷ enrol 4 0 gets value 0
+      ∷ dismiss 4 1 gets refused 4
+      ∷ []))
+  -- appoint's 5; 5 stands before 4, which only elements show that break the rules: here user 3, appointed, is of domain 1
+  pub other-domain : Answered (two-domains ++ (appoint 4 1 gets refused 5 ∷ appoint 3 2 gets refused 5 ∷ []))
+  pub domain-before-unchanged : (ruled staffed-role (appointing 8 1 staffed-role 3 1)) .answer ≡ refused 5
+  -- 11 of allow and lend stands before their 4; only elements that break the rules show it: permission 4 is had, nothing may be given
+  pub excess-before-unchanged : (ruled made (giving 8 1 made 0 16 3 0 16 (λ c. 0) made)) .answer ≡ refused 11
+  -- hand's 4 stands before its 10: hop limit 1, and one holder
+  pub holder-before-limit : Answered (issued
+      ++ (hand 3 3 0 gets refused 4
+      ∷ enrol 4 0 gets value 0
+      ∷ hand 3 4 0 gets refused 10
+      ∷ []))
+  -- 7 of each call that names a capability, before 4 where there is one
+  pub revoked : Answered (held
+      ++ (revoke 3 0 gets value 1
+      ∷ create-3 (ofCapability 0) 9 9 9 gets refused 7
+      ∷ allow 3 0 16 gets refused 7
+      ∷ lend 3 0 2 gets refused 7
+      ∷ hand 3 3 0 gets refused 7
+      ∷ open-0 5 9 gets refused 7
+      ∷ amend 3 0 (raise 0) gets refused 7
+      ∷ revoke 3 0 gets refused 7
+      ∷ []))
+  -- 6 of allow, lend, hand and amend: user 4 holds the capability, is appointed to its origin, and did not create it
+  pub creator-only : Answered (held
+      ++ (enrol 4 0 gets value 0
+      ∷ appoint 4 1 gets value 0
+      ∷ hand 3 4 0 gets value 2
+      ∷ allow 4 0 16 gets refused 6
+      ∷ lend 4 0 2 gets refused 6
+      ∷ hand 4 4 0 gets refused 6
+      ∷ amend 4 0 (lower 1) gets refused 6
+      ∷ lend 3 0 2 gets value 17
+      ∷ []))
+  -- create's 6, first cause: user 4 is not appointed to the role; user 3 does not hold the capability
+  pub members-create : Answered (staffed
+      ++ (enrol 4 0 gets value 0
+      ∷ create-by 4 (ofRole 1) gets refused 6
+      ∷ appoint 4 1 gets value 0
+      ∷ create-by 4 (ofRole 1) gets value 0
+      ∷ allow 4 0 1 gets value 1
+      ∷ create-by 3 (ofCapability 0) gets refused 6
+      ∷ hand 4 3 0 gets value 1
+      ∷ create-by 3 (ofCapability 0) gets value 1
+      ∷ []))
+  -- create's 6, second cause: the role, or the capability, lacks permission 0
+  pub create-carried : Answered (issued
+      ++ (create-3 (ofCapability 0) 2 1 1 gets refused 6
+      ∷ allow 3 0 1 gets value 17
+      ∷ create-3 (ofCapability 0) 2 1 1 gets value 1
+      ∷ withdraw 1 0 gets value 0
+      ∷ create-by 3 (ofRole 1) gets refused 6
+      ∷ grant 1 0 gets value 0
+      ∷ create-by 3 (ofRole 1) gets value 2
+      ∷ []))
+  -- the clock may stay, and not go back
+  pub same-tick : Answered (clock 5 gets value 0 ∷ clock 5 gets value 0 ∷ clock 4 gets refused 13 ∷ [])
+  -- open on a role asks for the appointment, check for it still; dismiss takes it from user 4 and from nobody else
+  pub dismissed : Answered (staffed
+      ++ (enrol 4 0 gets value 0
+      ∷ open-by 5 4 (ofRole 1) gets refused 6
+      ∷ appoint 4 1 gets value 0
+      ∷ open-by 5 4 (ofRole 1) gets value 0
+      ∷ open-by 6 3 (ofRole 1) gets value 0
+      ∷ check 5 4 gets value 1
+      ∷ check 5 7 gets value 0
+      ∷ dismiss 4 1 gets value 0
+      ∷ check 5 4 gets value 0
+      ∷ check 6 4 gets value 1
+      ∷ open-by 7 4 (ofRole 1) gets refused 6
+      ∷ dismiss 4 1 gets refused 4
+      ∷ appoint 4 1 gets value 0
+      ∷ check 5 4 gets value 1
+      ∷ []))
+  -- what a dismissed creator made stays, and stays hers to lend, hold and create from
+  pub creator-dismissed : Answered (held
+      ++ (open-0 5 9 gets value 0
+      ∷ dismiss 3 1 gets value 0
+      ∷ check 5 4 gets value 1
+      ∷ lend 3 0 2 gets value 17
+      ∷ create-by 3 (ofRole 1) gets refused 6
+      ∷ create-by 3 (ofCapability 0) gets value 1
+      ∷ []))
+  -- close ends just the session named, which may then be opened anew; its use stays counted (limit 2)
+  pub closed : Answered (issued
+      ++ (open-0 5 9 gets value 0
+      ∷ open-0 6 9 gets value 0
+      ∷ close 5 gets value 0
+      ∷ check 5 4 gets refused 3
+      ∷ close 5 gets refused 3
+      ∷ check 6 4 gets value 1
+      ∷ open-0 6 9 gets refused 4
+      ∷ open-0 5 9 gets refused 10
+      ∷ amend 3 0 (raise 1) gets value 3
+      ∷ open-0 5 9 gets value 0
+      ∷ check 5 4 gets value 1
+      ∷ []))
+  -- same asks for one domain: all authorities are equal, 0 and its child 2 end in a role of domain 0, 1 in one of domain 1
+  pub same-domain : Answered (two-domains
+      ++ (create-by 3 (ofRole 1) gets value 0
+      ∷ allow 3 0 17 gets value 17
+      ∷ create-by 4 (ofRole 2) gets value 1
+      ∷ allow 4 1 17 gets value 17
+      ∷ same 0 1 gets value 0
+      ∷ hand 3 3 0 gets value 1
+      ∷ create-by 3 (ofCapability 0) gets value 2
+      ∷ allow 3 2 17 gets value 17
+      ∷ same 2 0 gets value 1
+      ∷ same 2 1 gets value 0
+      ∷ []))
+  -- same asks for equal authorities, own permissions and lent roles joined; two roles of one domain may stand at the ends
+  pub same-authority : Answered (staffed
+      ++ (found 2 0 16777215 65535 65535 gets value 0
+      ∷ grant 2 0 gets value 0
+      ∷ appoint 3 2 gets value 0
+      ∷ create-by 3 (ofRole 1) gets value 0
+      ∷ create-by 3 (ofRole 2) gets value 1
+      ∷ same 0 1 gets value 1
+      ∷ allow 3 0 1 gets value 1
+      ∷ same 0 1 gets value 0
+      ∷ lend 3 1 4 gets value 1
+      ∷ same 0 1 gets value 1
+      ∷ []))
