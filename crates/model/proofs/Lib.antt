@@ -27,3 +27,4 @@ pub mod ListTheorem
 pub mod Edges
 pub mod Listing
 pub mod Cases
+pub mod JournalCases

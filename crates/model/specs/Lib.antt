@@ -23,3 +23,4 @@ pub mod Theorem
 pub mod Edges
 pub mod Listing
 pub mod Cases
+pub mod JournalCases
