@@ -19,7 +19,7 @@ use Rattle.model.specs.Comparison.{domainOf, alike, sameRuling}
 use Rattle.model.specs.Calls.{Call, ruling, settled, step}
 use Rattle.model.specs.Fields.{roleCodings, roleFields, writeRole, roleOf, readRole, sessionCodings, sessionFields, writeSession, sessionOf, readSession, headCodings, capabilityCodings, capabilityFields, headFields, writeCapability, capabilityOf, readHead, readCapability, capabilityLength}
 use Rattle.model.specs.Image.{foundedRoles, activeSessions, encode, decode, loads, loadEffect}
-use Rattle.model.specs.Lists.{perform, answers, calls}
+use Rattle.model.specs.Lists.{perform, run, answers, calls}
 use Rattle.model.specs.Theorem.{FreshStart}
 use Rattle.model.specs.Edges.{Exchange, asked, got, Answered, Edges}
 use Rattle.model.proofs.Settling.{step-settled}
@@ -36,7 +36,7 @@ unfoldable pub rules-compute : ℕ
 unfolding wellFormed userKeeps roleBlank sameDomain roleKeeps capabilityBlank inRange allFounded earlier ownKeeps capabilityKeeps placeKeeps sessionBlank sessionKeeps ones onesIn allBelow allFrom children
 rules-compute = 0
 
-image-compute : ℕ
+unfoldable pub image-compute : ℕ
 unfolding loadEffect loads encode decode foundedRoles activeSessions roleCodings roleFields writeRole roleOf readRole sessionCodings sessionFields writeSession sessionOf readSession headCodings capabilityCodings capabilityFields headFields writeCapability capabilityOf readHead readCapability capabilityLength
 image-compute = 0
 
@@ -61,6 +61,20 @@ answers-quick r (c ∷ cs) k =
 
 pub computed : {xs : List Exchange} → quick fresh (asked xs) ≡ got xs → Answered xs
 computed {xs} e = record { answered = answers-quick fresh (asked xs) (kept→ fresh fresh-formed) ∙ e }
+
+-- the register after them, likewise
+unfoldable pub quickRun : Register → List Call → Register
+quickRun r [] = r
+quickRun r (c ∷ cs) = quickRun ((settled r c) .after) cs
+
+run-quick : (r : Register) (cs : List Call) → Kept r → run r (calls cs) ≡ quickRun r cs
+unfolding run quickRun perform
+run-quick r [] k = refl
+run-quick r (c ∷ cs) k =
+    run-quick ((step r c) .after) cs (step-keeps r c k) ∙ ap (λ (q : Effect Register). quickRun (q .after) cs) (step-settled r c (kept← r k))
+
+pub run-computed : (cs : List Call) → run fresh (calls cs) ≡ quickRun fresh cs
+run-computed cs = run-quick fresh cs (kept→ fresh fresh-formed)
 
 pub edges : Edges
 unfolding calls-compute rules-compute image-compute quick perform

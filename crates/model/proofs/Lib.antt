@@ -28,3 +28,4 @@ pub mod Edges
 pub mod Listing
 pub mod Cases
 pub mod JournalCases
+pub mod ImageCases

@@ -24,3 +24,4 @@ pub mod Edges
 pub mod Listing
 pub mod Cases
 pub mod JournalCases
+pub mod ImageCases

@@ -1,0 +1,153 @@
+-- One register with one of everything and its image, byte by byte; and the entry point's buffer, line and order of refusals.
+-- Bytes and answers were worked out from document 01 by hand. `proofs/ImageCases.antt` proves them.
+use mathlib.Core.Path.{_≡_}
+use mathlib.Core.Bool.{true}
+use mathlib.Core.List.{List, [], _∷_, _++_}
+use Prim.Native.Nat.{ℕ}
+use lib.IntN.{pos, negsuc}
+use lib.ListN.{replicate}
+use Rattle.masks.specs.Bytes.{bytes}
+use Rattle.model.specs.declared.Origin.{Origin}
+use Rattle.model.specs.declared.Origin.the-variants.{Role as ofRole, Capability as ofCapability}
+use Rattle.model.specs.declared.Register.{Register}
+use Rattle.model.specs.State.{fresh, contextOf, planOf}
+use Rattle.model.specs.Rulings.{value, refused}
+use Rattle.model.specs.Calls.{Call, enrol, found, grant, appoint, clock, create, allow, lend, hand, opening, revoke, close}
+use Rattle.model.specs.Image.{encode, loads, savedBuffer}
+use Rattle.model.specs.Entry.{Return, declined, done, entry, returned, bufferAfter}
+use Rattle.model.specs.Lists.{save, perform, run, calls}
+use Rattle.model.specs.Edges.{Exchange, _gets_, asked, Answered}
+use Rattle.model.specs.JournalCases.{line}
+
+-- ---- the register
+
+-- every session is opened, and every capability created, in hour 20, place 9, with device 3
+abbrev pub open-in-20 : (session user : ℕ) → Origin → Call
+open-in-20 session user o = opening session user o (contextOf 20 9 3)
+
+-- users 1, 10, 63; roles 9, 26; capability 0 from role 26 with no field 0, and 1 from it, revoked; sessions 5, 14, 62
+abbrev pub everything : List Exchange
+everything =
+    clock 84281096 gets value 0
+    ∷ enrol 1 3 gets value 0
+    ∷ enrol 10 5 gets value 0
+    ∷ enrol 63 3 gets value 0
+    ∷ found 9 5 66051 1029 1543 gets value 0
+    ∷ found 26 3 16777215 65535 65535 gets value 0
+    ∷ grant 26 0 gets value 0
+    ∷ grant 26 9 gets value 0
+    ∷ grant 26 18 gets value 0
+    ∷ grant 26 27 gets value 0
+    ∷ appoint 1 26 gets value 0
+    ∷ appoint 63 26 gets value 0
+    ∷ create 1 (ofRole 26) (contextOf 20 9 3) (planOf 16909060 151653132 3342 3856 4370 1250325 5655 6169) gets value 0
+    ∷ allow 1 0 262657 gets value 262657
+    ∷ lend 1 0 67108864 gets value 134480385
+    ∷ hand 1 1 0 gets value 1
+    ∷ hand 1 10 0 gets value 2
+    ∷ create 10 (ofCapability 0) (contextOf 20 9 3) (planOf 16909061 151653131 0 0 0 0 0 0) gets value 1
+    ∷ revoke 10 1 gets value 1
+    ∷ open-in-20 62 1 (ofCapability 0) gets value 0
+    ∷ close 62 gets value 0
+    ∷ open-in-20 62 1 (ofCapability 0) gets value 0
+    ∷ open-in-20 14 10 (ofCapability 0) gets value 0
+    ∷ open-in-20 5 63 (ofRole 26) gets value 0
+    ∷ []
+
+abbrev pub full : Register
+full = run fresh (calls (asked everything))
+
+-- ---- its image: numbers have their high byte first, maps item 0 in the lowest bit of their first byte
+
+abbrev pub image : List ℕ
+image =
+    5 ∷ 6 ∷ 7 ∷ 8  -- clock
+    ∷ 2 ∷ 4 ∷ 0 ∷ 0 ∷ 0 ∷ 0 ∷ 0 ∷ 128  -- map of users: 1, 10, 63
+    ∷ 3 ∷ 5 ∷ 3  -- their domains
+    ∷ 0 ∷ 2 ∷ 0 ∷ 4  -- map of roles: 9, 26
+    -- role 9
+    ∷ 5  -- domain
+    ∷ 0 ∷ 0 ∷ 0 ∷ 0  -- permissions
+    ∷ 1 ∷ 2 ∷ 3  -- hours
+    ∷ 4 ∷ 5  -- places
+    ∷ 6 ∷ 7  -- devices
+    ∷ 0 ∷ 0 ∷ 0 ∷ 0 ∷ 0 ∷ 0 ∷ 0 ∷ 0  -- appointed
+    -- role 26
+    ∷ 3  -- domain
+    ∷ 8 ∷ 4 ∷ 2 ∷ 1  -- permissions: 27, 18, 9, 0
+    ∷ 255 ∷ 255 ∷ 255  -- hours
+    ∷ 255 ∷ 255  -- places
+    ∷ 255 ∷ 255  -- devices
+    ∷ 2 ∷ 0 ∷ 0 ∷ 0 ∷ 0 ∷ 0 ∷ 0 ∷ 128  -- appointed: 1, 63
+    ∷ 0 ∷ 2  -- count of capabilities
+    -- capability 0
+    ∷ 0  -- kind: from a role
+    ∷ 26  -- its number
+    ∷ 1  -- creator
+    ∷ 63 ∷ 255  -- field map: fields 0 to 13
+    ∷ 0 ∷ 4 ∷ 2 ∷ 1  -- 0 permissions: 18, 9, 0
+    ∷ 4 ∷ 0 ∷ 0 ∷ 0  -- 1 lent roles: 26
+    ∷ 2 ∷ 4 ∷ 0 ∷ 0 ∷ 0 ∷ 0 ∷ 0 ∷ 0  -- 2 holders: 1, 10
+    ∷ 1 ∷ 2 ∷ 3 ∷ 4  -- 3 first tick
+    ∷ 9 ∷ 10 ∷ 11 ∷ 12  -- 4 last tick
+    ∷ 13 ∷ 14  -- 5 use limit
+    ∷ 0 ∷ 3  -- 6 uses
+    ∷ 15 ∷ 16  -- 7 creation limit
+    ∷ 0 ∷ 1  -- 8 creations
+    ∷ 17 ∷ 18  -- 9 hop limit
+    ∷ 0 ∷ 2  -- 10 hops
+    ∷ 19 ∷ 20 ∷ 21  -- 11 hours
+    ∷ 22 ∷ 23  -- 12 places
+    ∷ 24 ∷ 25  -- 13 devices
+    -- capability 1
+    ∷ 1  -- kind: from a capability
+    ∷ 0  -- its number
+    ∷ 10  -- creator
+    ∷ 64 ∷ 24  -- field map: 3, 4, and the revoked mark 14
+    ∷ 1 ∷ 2 ∷ 3 ∷ 5  -- 3 first tick
+    ∷ 9 ∷ 10 ∷ 11 ∷ 11  -- 4 last tick
+    ∷ 32 ∷ 64 ∷ 0 ∷ 0 ∷ 0 ∷ 0 ∷ 0 ∷ 64  -- map of sessions: 5, 14, 62
+    ∷ 63 ∷ 0 ∷ 26 ∷ 20 ∷ 9 ∷ 3  -- session 5: user, kind, number, hour, place, device
+    ∷ 10 ∷ 1 ∷ 0 ∷ 20 ∷ 9 ∷ 3  -- session 14
+    ∷ 1 ∷ 1 ∷ 0 ∷ 20 ∷ 9 ∷ 3  -- session 62
+    ∷ []
+
+-- ---- the entry point on a fresh register, with a line and a buffer of so many bytes
+
+abbrev pub on-fresh : List ℕ → ℕ → Return
+on-fresh text room = entry (replicate 26 0) text room
+
+-- the image of a register with user 3 in domain 2: clock, map of users, domain, no role, no capability, no session
+abbrev pub enrolled-3 : List ℕ
+enrolled-3 = (0 ∷ 0 ∷ 0 ∷ 0 ∷ 8 ∷ 0 ∷ 0 ∷ 0 ∷ 0 ∷ 0 ∷ 0 ∷ 0 ∷ 2 ∷ []) ++ replicate 14 0
+
+pub record ImageCases : Type 0 where
+  -- the calls are accepted with these answers
+  pub accepted : Answered everything
+  -- order, width and byte order of every part and field, the two kinds, and which fields are left out
+  pub encoded : encode full ≡ image
+  -- load takes these bytes
+  pub loaded : loads image ≡ true
+  -- save answers their number, 148, and asks for that room
+  pub saved : (perform full (save 148)) .answer ≡ value 148
+  pub saved-short : (perform full (save 147)) .answer ≡ refused 16
+  -- .. and leaves the bytes after them
+  pub saved-into : savedBuffer full (replicate 150 7) (value 148) ≡ image ++ (7 ∷ 7 ∷ [])
+
+pub record EntryCases : Type 0 where
+  -- the buffer needs 2 bytes beside the 27 of the new image
+  pub room : on-fresh (line "enrol 3 2") 29 ≡ done 0 enrolled-3
+  pub room-short : on-fresh (line "enrol 3 2") 28 ≡ declined 16
+  -- 16 comes after the call's own refusal, that after 1, and that after 14
+  pub own-before-room : on-fresh (line "enrol 64 2") 0 ≡ declined 2
+  pub line-before-room : on-fresh (line "enrol 3") 0 ≡ declined 1
+  pub image-before-line : entry (replicate 25 0) (line "enrol 3") 0 ≡ declined 14
+  -- a line without its line feed, and two lines
+  pub unended : on-fresh (bytes "enrol 3 2") 29 ≡ declined 1
+  pub two-lines : on-fresh (line "enrol 3 2" ++ line "enrol 4 2") 99 ≡ declined 1
+  -- a refusal is returned as a negative number (`negsuc n` is -(n + 1)), and leaves the buffer
+  pub negative : returned (on-fresh (line "enrol 3 2") 28) ≡ negsuc 15
+  pub untouched : bufferAfter (on-fresh (line "enrol 3 2") 28) (replicate 28 7) ≡ replicate 28 7
+  -- accepted: the value, the length in 2 bytes, the image, and the bytes after it as they were
+  pub positive : returned (on-fresh (line "enrol 3 2") 31) ≡ pos 0
+  pub filled : bufferAfter (on-fresh (line "enrol 3 2") 31) (replicate 31 7) ≡ (0 ∷ 27 ∷ []) ++ enrolled-3 ++ (7 ∷ 7 ∷ [])
