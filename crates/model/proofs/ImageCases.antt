@@ -20,9 +20,9 @@ image-cases =
       accepted = computed refl;
       encoded = ap encode quickly ∙ refl;
       loaded = refl;
-      saved = ap (λ (r : Register). (perform r (save 148)) .answer) quickly ∙ refl;
-      saved-short = ap (λ (r : Register). (perform r (save 147)) .answer) quickly ∙ refl;
-      saved-into = ap (λ (r : Register). savedBuffer r (replicate 150 7) (value 148)) quickly ∙ refl;
+      saved = ap (λ (r : Register). (perform r (save 149)) .answer) quickly ∙ refl;
+      saved-short = ap (λ (r : Register). (perform r (save 148)) .answer) quickly ∙ refl;
+      saved-into = ap (λ (r : Register). savedBuffer r (replicate 151 7) (value 149)) quickly ∙ refl;
     }
   where
     quickly : full ≡ quickRun fresh (asked everything)

@@ -25,14 +25,16 @@ use Rattle.model.specs.JournalCases.{line}
 abbrev pub open-in-20 : (session user : ℕ) → Origin → Call
 open-in-20 session user o = opening session user o (contextOf 20 9 3)
 
--- users 1, 10, 63; roles 9, 26; capability 0 from role 26 with no field 0, and 1 from it, revoked; sessions 5, 14, 62
+-- four users, two roles, capability 0 in which no field is 0, capability 1 from it, revoked, and three sessions;
+-- a number of several bytes is hexadecimal, so that its bytes are seen
 abbrev pub everything : List Exchange
 everything =
-    clock 84281096 gets value 0
+    clock 0x05060708 gets value 0
     ∷ enrol 1 3 gets value 0
     ∷ enrol 10 5 gets value 0
+    ∷ enrol 20 7 gets value 0
     ∷ enrol 63 3 gets value 0
-    ∷ found 9 5 66051 1029 1543 gets value 0
+    ∷ found 9 5 0x010203 0x0405 0x0607 gets value 0
     ∷ found 26 3 16777215 65535 65535 gets value 0
     ∷ grant 26 0 gets value 0
     ∷ grant 26 9 gets value 0
@@ -40,12 +42,12 @@ everything =
     ∷ grant 26 27 gets value 0
     ∷ appoint 1 26 gets value 0
     ∷ appoint 63 26 gets value 0
-    ∷ create 1 (ofRole 26) (contextOf 20 9 3) (planOf 16909060 151653132 3342 3856 4370 1250325 5655 6169) gets value 0
-    ∷ allow 1 0 262657 gets value 262657
-    ∷ lend 1 0 67108864 gets value 134480385
+    ∷ create 1 (ofRole 26) (contextOf 20 9 3) (planOf 0x01020304 0x090a0b0c 0x0d0e 0x0f10 0x1112 0x131415 0x1617 0x1819) gets value 0
+    ∷ allow 1 0 0x00040201 gets value 0x00040201
+    ∷ lend 1 0 0x04000000 gets value 0x08040201
     ∷ hand 1 1 0 gets value 1
     ∷ hand 1 10 0 gets value 2
-    ∷ create 10 (ofCapability 0) (contextOf 20 9 3) (planOf 16909061 151653131 0 0 0 0 0 0) gets value 1
+    ∷ create 10 (ofCapability 0) (contextOf 20 9 3) (planOf 0x01020305 0x090a0b0b 0 0 0 0 0 0) gets value 1
     ∷ revoke 10 1 gets value 1
     ∷ open-in-20 62 1 (ofCapability 0) gets value 0
     ∷ close 62 gets value 0
@@ -62,8 +64,8 @@ full = run fresh (calls (asked everything))
 abbrev pub image : List ℕ
 image =
     5 ∷ 6 ∷ 7 ∷ 8  -- clock
-    ∷ 2 ∷ 4 ∷ 0 ∷ 0 ∷ 0 ∷ 0 ∷ 0 ∷ 128  -- map of users: 1, 10, 63
-    ∷ 3 ∷ 5 ∷ 3  -- their domains
+    ∷ 2 ∷ 4 ∷ 16 ∷ 0 ∷ 0 ∷ 0 ∷ 0 ∷ 128  -- map of users: 1, 10, 20, 63
+    ∷ 3 ∷ 5 ∷ 7 ∷ 3  -- their domains
     ∷ 0 ∷ 2 ∷ 0 ∷ 4  -- map of roles: 9, 26
     -- role 9
     ∷ 5  -- domain
@@ -84,28 +86,28 @@ image =
     ∷ 0  -- kind: from a role
     ∷ 26  -- its number
     ∷ 1  -- creator
-    ∷ 63 ∷ 255  -- field map: fields 0 to 13
+    ∷ 0x3f ∷ 0xff  -- field map: fields 0 to 13
     ∷ 0 ∷ 4 ∷ 2 ∷ 1  -- 0 permissions: 18, 9, 0
     ∷ 4 ∷ 0 ∷ 0 ∷ 0  -- 1 lent roles: 26
     ∷ 2 ∷ 4 ∷ 0 ∷ 0 ∷ 0 ∷ 0 ∷ 0 ∷ 0  -- 2 holders: 1, 10
     ∷ 1 ∷ 2 ∷ 3 ∷ 4  -- 3 first tick
-    ∷ 9 ∷ 10 ∷ 11 ∷ 12  -- 4 last tick
-    ∷ 13 ∷ 14  -- 5 use limit
+    ∷ 0x09 ∷ 0x0a ∷ 0x0b ∷ 0x0c  -- 4 last tick
+    ∷ 0x0d ∷ 0x0e  -- 5 use limit
     ∷ 0 ∷ 3  -- 6 uses
-    ∷ 15 ∷ 16  -- 7 creation limit
+    ∷ 0x0f ∷ 0x10  -- 7 creation limit
     ∷ 0 ∷ 1  -- 8 creations
-    ∷ 17 ∷ 18  -- 9 hop limit
+    ∷ 0x11 ∷ 0x12  -- 9 hop limit
     ∷ 0 ∷ 2  -- 10 hops
-    ∷ 19 ∷ 20 ∷ 21  -- 11 hours
-    ∷ 22 ∷ 23  -- 12 places
-    ∷ 24 ∷ 25  -- 13 devices
+    ∷ 0x13 ∷ 0x14 ∷ 0x15  -- 11 hours
+    ∷ 0x16 ∷ 0x17  -- 12 places
+    ∷ 0x18 ∷ 0x19  -- 13 devices
     -- capability 1
     ∷ 1  -- kind: from a capability
     ∷ 0  -- its number
     ∷ 10  -- creator
-    ∷ 64 ∷ 24  -- field map: 3, 4, and the revoked mark 14
+    ∷ 0x40 ∷ 0x18  -- field map: 3, 4, and the revoked mark 14
     ∷ 1 ∷ 2 ∷ 3 ∷ 5  -- 3 first tick
-    ∷ 9 ∷ 10 ∷ 11 ∷ 11  -- 4 last tick
+    ∷ 0x09 ∷ 0x0a ∷ 0x0b ∷ 0x0b  -- 4 last tick
     ∷ 32 ∷ 64 ∷ 0 ∷ 0 ∷ 0 ∷ 0 ∷ 0 ∷ 64  -- map of sessions: 5, 14, 62
     ∷ 63 ∷ 0 ∷ 26 ∷ 20 ∷ 9 ∷ 3  -- session 5: user, kind, number, hour, place, device
     ∷ 10 ∷ 1 ∷ 0 ∷ 20 ∷ 9 ∷ 3  -- session 14
@@ -128,11 +130,11 @@ pub record ImageCases : Type 0 where
   pub encoded : encode full ≡ image
   -- load takes these bytes
   pub loaded : loads image ≡ true
-  -- save answers their number, 148, and asks for that room
-  pub saved : (perform full (save 148)) .answer ≡ value 148
-  pub saved-short : (perform full (save 147)) .answer ≡ refused 16
+  -- save answers their number, 149, and asks for that room
+  pub saved : (perform full (save 149)) .answer ≡ value 149
+  pub saved-short : (perform full (save 148)) .answer ≡ refused 16
   -- .. and leaves the bytes after them
-  pub saved-into : savedBuffer full (replicate 150 7) (value 148) ≡ image ++ (7 ∷ 7 ∷ [])
+  pub saved-into : savedBuffer full (replicate 151 7) (value 149) ≡ image ++ (7 ∷ 7 ∷ [])
 
 pub record EntryCases : Type 0 where
   -- the buffer needs 2 bytes beside the 27 of the new image
