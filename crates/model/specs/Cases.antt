@@ -53,10 +53,11 @@ pub record CallCases : Type 0 where
       ∷ enrol 4 0 gets value 0
       ∷ dismiss 4 1 gets refused 4
       ∷ []))
-  -- appoint's 5; 5 stands before 4, which only elements show that break the rules: here user 3, appointed, is of domain 1
+  -- appoint's 5: a user of another domain
   pub other-domain : Answered (two-domains ++ (appoint 4 1 gets refused 5 ∷ appoint 3 2 gets refused 5 ∷ []))
+  -- appoint's 5 stands before its 4: user 3, appointed, is of domain 1 here, which breaks a rule; so no list of calls shows it
   pub domain-before-unchanged : (ruled staffed-role (appointing 8 1 staffed-role 3 1)) .answer ≡ refused 5
-  -- 11 of allow and lend stands before their 4; only elements that break the rules show it: permission 4 is had, nothing may be given
+  -- 11 of allow and lend stands before their 4: the origin may give 0, the capability has 16, asked for is 16; this breaks a rule too
   pub excess-before-unchanged : (ruled made (giving 8 1 made 0 16 3 0 16 (λ c. 0) made)) .answer ≡ refused 11
   -- hand's 4 stands before its 10: hop limit 1, and one holder
   pub holder-before-limit : Answered (issued

@@ -130,26 +130,33 @@ pub record ImageCases : Type 0 where
   pub encoded : encode full ≡ image
   -- load takes these bytes
   pub loaded : loads image ≡ true
-  -- save answers their number, 149, and asks for that room
+  -- save answers their number, which is room enough
   pub saved : (perform full (save 149)) .answer ≡ value 149
+  -- one byte less is not
   pub saved-short : (perform full (save 148)) .answer ≡ refused 16
-  -- .. and leaves the bytes after them
+  -- save leaves the bytes after them
   pub saved-into : savedBuffer full (replicate 151 7) (value 149) ≡ image ++ (7 ∷ 7 ∷ [])
 
 pub record EntryCases : Type 0 where
-  -- the buffer needs 2 bytes beside the 27 of the new image
+  -- 2 bytes beside the 27 of the new image are room enough
   pub room : on-fresh (line "enrol 3 2") 29 ≡ done 0 enrolled-3
+  -- one byte less is not
   pub room-short : on-fresh (line "enrol 3 2") 28 ≡ declined 16
-  -- 16 comes after the call's own refusal, that after 1, and that after 14
+  -- the call's own refusal comes before 16
   pub own-before-room : on-fresh (line "enrol 64 2") 0 ≡ declined 2
+  -- so does 1
   pub line-before-room : on-fresh (line "enrol 3") 0 ≡ declined 1
+  -- 14 comes first of all
   pub image-before-line : entry (replicate 25 0) (line "enrol 3") 0 ≡ declined 14
-  -- a line without its line feed, and two lines
+  -- the line has its line feed
   pub unended : on-fresh (bytes "enrol 3 2") 29 ≡ declined 1
+  -- it is one line
   pub two-lines : on-fresh (line "enrol 3 2" ++ line "enrol 4 2") 99 ≡ declined 1
-  -- a refusal is returned as a negative number (`negsuc n` is -(n + 1)), and leaves the buffer
+  -- a refusal is returned as a negative number: `negsuc 15` is -16
   pub negative : returned (on-fresh (line "enrol 3 2") 28) ≡ negsuc 15
+  -- refused, the buffer stays
   pub untouched : bufferAfter (on-fresh (line "enrol 3 2") 28) (replicate 28 7) ≡ replicate 28 7
-  -- accepted: the value, the length in 2 bytes, the image, and the bytes after it as they were
-  pub positive : returned (on-fresh (line "enrol 3 2") 31) ≡ pos 0
+  -- accepted, the value is returned: user 10 of session 14 has permission 9
+  pub positive : returned (entry image (line "check 14 9") 151) ≡ pos 1
+  -- accepted, the buffer has the image's length in 2 bytes, the image, and after it what it had
   pub filled : bufferAfter (on-fresh (line "enrol 3 2") 31) (replicate 31 7) ≡ (0 ∷ 27 ∷ []) ++ enrolled-3 ++ (7 ∷ 7 ∷ [])

@@ -120,9 +120,11 @@ pub record JournalCases : Type 0 where
       ∷ "load" prints "no 1"
       ∷ "enrol 3 0" prints "ok 0"
       ∷ [])
-  -- a last line that no line feed ends is no request; where nothing follows the last line feed, nothing is printed
+  -- a last line that no line feed ends is no request
   pub unended : program (typed prologue ++ bytes "revoke 3 0") ≡ shown prologue ++ line "no 1"
+  -- no line, nothing printed
   pub nothing : program [] ≡ []
-  -- 32,768 bytes are played, one more is not
+  -- 32,768 bytes are played: a line, and the blanks after it as an unended one
   pub longest : program (line "enrol 3 0" ++ replicate 32758 32) ≡ line "ok 0" ++ line "no 1"
+  -- one byte more, and no line is played
   pub too-long : program (line "enrol 3 0" ++ replicate 32759 32) ≡ line "no 1"
