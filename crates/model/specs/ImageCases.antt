@@ -34,17 +34,17 @@ everything =
     ∷ enrol 10 5 gets value 0
     ∷ enrol 20 7 gets value 0
     ∷ enrol 63 3 gets value 0
-    ∷ found 9 5 0x010203 0x0405 0x0607 gets value 0
-    ∷ found 26 3 16777215 65535 65535 gets value 0
-    ∷ grant 26 0 gets value 0
-    ∷ grant 26 9 gets value 0
-    ∷ grant 26 18 gets value 0
-    ∷ grant 26 27 gets value 0
-    ∷ appoint 1 26 gets value 0
-    ∷ appoint 63 26 gets value 0
-    ∷ create 1 (ofRole 26) (contextOf 20 9 3) (planOf 0x01020304 0x090a0b0c 0x0d0e 0x0f10 0x1112 0x131415 0x1617 0x1819) gets value 0
+    ∷ found 2 5 0x010203 0x0405 0x0607 gets value 0
+    ∷ found 12 3 16777215 65535 65535 gets value 0
+    ∷ grant 12 0 gets value 0
+    ∷ grant 12 9 gets value 0
+    ∷ grant 12 18 gets value 0
+    ∷ grant 12 27 gets value 0
+    ∷ appoint 1 12 gets value 0
+    ∷ appoint 63 12 gets value 0
+    ∷ create 1 (ofRole 12) (contextOf 20 9 3) (planOf 0x01020304 0x090a0b0c 0x0d0e 0x0f10 0x1112 0x131415 0x1617 0x1819) gets value 0
     ∷ allow 1 0 0x00040201 gets value 0x00040201
-    ∷ lend 1 0 0x04000000 gets value 0x08040201
+    ∷ lend 1 0 0x00001000 gets value 0x08040201
     ∷ hand 1 1 0 gets value 1
     ∷ hand 1 10 0 gets value 2
     ∷ create 10 (ofCapability 0) (contextOf 20 9 3) (planOf 0x01020305 0x090a0b0b 0 0 0 0 0 0) gets value 1
@@ -53,7 +53,7 @@ everything =
     ∷ close 62 gets value 0
     ∷ open-in-20 62 1 (ofCapability 0) gets value 0
     ∷ open-in-20 14 10 (ofCapability 0) gets value 0
-    ∷ open-in-20 5 63 (ofRole 26) gets value 0
+    ∷ open-in-20 5 63 (ofRole 12) gets value 0
     ∷ []
 
 abbrev pub full : Register
@@ -66,15 +66,15 @@ image =
     5 ∷ 6 ∷ 7 ∷ 8  -- clock
     ∷ 2 ∷ 4 ∷ 16 ∷ 0 ∷ 0 ∷ 0 ∷ 0 ∷ 128  -- map of users: 1, 10, 20, 63
     ∷ 3 ∷ 5 ∷ 7 ∷ 3  -- their domains
-    ∷ 0 ∷ 2 ∷ 0 ∷ 4  -- map of roles: 9, 26
-    -- role 9
+    ∷ 4 ∷ 16 ∷ 0 ∷ 0  -- map of roles: 2, 12
+    -- role 2
     ∷ 5  -- domain
     ∷ 0 ∷ 0 ∷ 0 ∷ 0  -- permissions
     ∷ 1 ∷ 2 ∷ 3  -- hours
     ∷ 4 ∷ 5  -- places
     ∷ 6 ∷ 7  -- devices
     ∷ 0 ∷ 0 ∷ 0 ∷ 0 ∷ 0 ∷ 0 ∷ 0 ∷ 0  -- appointed
-    -- role 26
+    -- role 12
     ∷ 3  -- domain
     ∷ 8 ∷ 4 ∷ 2 ∷ 1  -- permissions: 27, 18, 9, 0
     ∷ 255 ∷ 255 ∷ 255  -- hours
@@ -84,11 +84,11 @@ image =
     ∷ 0 ∷ 2  -- count of capabilities
     -- capability 0
     ∷ 0  -- kind: from a role
-    ∷ 26  -- its number
+    ∷ 12  -- its number
     ∷ 1  -- creator
     ∷ 0x3f ∷ 0xff  -- field map: fields 0 to 13
     ∷ 0 ∷ 4 ∷ 2 ∷ 1  -- 0 permissions: 18, 9, 0
-    ∷ 4 ∷ 0 ∷ 0 ∷ 0  -- 1 lent roles: 26
+    ∷ 0 ∷ 0 ∷ 0x10 ∷ 0  -- 1 lent roles: 12
     ∷ 2 ∷ 4 ∷ 0 ∷ 0 ∷ 0 ∷ 0 ∷ 0 ∷ 0  -- 2 holders: 1, 10
     ∷ 1 ∷ 2 ∷ 3 ∷ 4  -- 3 first tick
     ∷ 0x09 ∷ 0x0a ∷ 0x0b ∷ 0x0c  -- 4 last tick
@@ -109,7 +109,7 @@ image =
     ∷ 1 ∷ 2 ∷ 3 ∷ 5  -- 3 first tick
     ∷ 0x09 ∷ 0x0a ∷ 0x0b ∷ 0x0b  -- 4 last tick
     ∷ 32 ∷ 64 ∷ 0 ∷ 0 ∷ 0 ∷ 0 ∷ 0 ∷ 64  -- map of sessions: 5, 14, 62
-    ∷ 63 ∷ 0 ∷ 26 ∷ 20 ∷ 9 ∷ 3  -- session 5: user, kind, number, hour, place, device
+    ∷ 63 ∷ 0 ∷ 12 ∷ 20 ∷ 9 ∷ 3  -- session 5: user, kind, number, hour, place, device
     ∷ 10 ∷ 1 ∷ 0 ∷ 20 ∷ 9 ∷ 3  -- session 14
     ∷ 1 ∷ 1 ∷ 0 ∷ 20 ∷ 9 ∷ 3  -- session 62
     ∷ []
