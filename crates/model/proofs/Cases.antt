@@ -8,6 +8,7 @@ unfolding calls-compute quick
 call-cases =
     record {
       unchanged = computed refl;
+      nothing-added = computed refl;
       other-domain = computed refl;
       domain-before-unchanged = refl;
       excess-before-unchanged = refl;

@@ -27,5 +27,6 @@ pub mod ListTheorem
 pub mod Edges
 pub mod Listing
 pub mod Cases
+pub mod OrderCases
 pub mod JournalCases
 pub mod ImageCases

@@ -53,6 +53,15 @@ pub record CallCases : Type 0 where
       ∷ enrol 4 0 gets value 0
       ∷ dismiss 4 1 gets refused 4
       ∷ []))
+  -- 4 of allow, lend and amend: no bit is added, the change is 0
+  pub nothing-added : Answered (held
+      ++ (allow 3 0 16 gets refused 4
+      ∷ allow 3 0 0 gets refused 4
+      ∷ lend 3 0 0 gets refused 4
+      ∷ lend 3 0 2 gets value 17
+      ∷ lend 3 0 2 gets refused 4
+      ∷ amend 3 0 (raise 0) gets refused 4
+      ∷ []))
   -- appoint's 5: a user of another domain
   pub other-domain : Answered (two-domains ++ (appoint 4 1 gets refused 5 ∷ appoint 3 2 gets refused 5 ∷ []))
   -- appoint's 5 stands before its 4: user 3, appointed, is of domain 1 here, which breaks a rule; so no list of calls shows it

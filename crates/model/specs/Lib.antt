@@ -23,5 +23,6 @@ pub mod Theorem
 pub mod Edges
 pub mod Listing
 pub mod Cases
+pub mod OrderCases
 pub mod JournalCases
 pub mod ImageCases
