@@ -3,7 +3,7 @@ use mathlib.Core.Path.{refl}
 use Rattle.model.specs.Calls.{step}
 use Rattle.model.specs.Lines.{forms, parse, decimal, answerLine}
 use Rattle.model.specs.Journal.{lineEffect, transcript, journal}
-use Rattle.model.specs.JournalCases.{Played, JournalCases}
+use Rattle.model.specs.JournalCases.{JournalCases}
 use Rattle.model.proofs.Edges.{calls-compute, rules-compute}
 
 pub journal-cases : JournalCases

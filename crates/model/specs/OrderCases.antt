@@ -2,13 +2,12 @@
 -- is answered. Worked out by hand; `proofs/OrderCases.antt` proves them.
 use mathlib.Core.List.{List, [], _∷_, _++_}
 use Prim.Native.Nat.{ℕ}
-use Rattle.model.specs.declared.Origin.{Origin}
 use Rattle.model.specs.declared.Origin.the-variants.{Role as ofRole, Capability as ofCapability}
 use Rattle.model.specs.State.{contextOf, planOf}
 use Rattle.model.specs.Rulings.{value, refused}
 use Rattle.model.specs.Revocation.{raise}
 use Rattle.model.specs.Calls.{Call, enrol, found, grant, withdraw, appoint, dismiss, clock, create, allow, lend, hand, opening, check, amend, revoke, close, same}
-use Rattle.model.specs.Edges.{Exchange, _gets_, Answered, create-3, staffed, held, numbered}
+use Rattle.model.specs.Edges.{Exchange, _gets_, Answered, create-3, staffed, numbered}
 
 -- create from capability 0, and open on it, by a user at an hour; the new capability would have the use limit given
 abbrev create-0 : (user hour uses : ℕ) → Call
