@@ -12,17 +12,17 @@ use lib.ListN.{List·getD-eq-default}
 use Rattle.masks.proofs.Truth.{Each, each→, each←, cond-yes, T→true}
 use Rattle.masks.proofs.MaskLaws.{within-has, has-lt}
 use Rattle.model.specs.declared.Origin.{Origin}
-use Rattle.model.specs.declared.Origin.the-variants.{Capability as ofCapability}
+use Rattle.model.specs.declared.Origin.the-variants.{Role as ofRole, Capability as ofCapability}
 use Rattle.model.specs.declared.Session.{Session}
 use Rattle.model.specs.declared.Register.{Register}
 use Rattle.model.specs.State.{terms, roleAuthority, sessionAt, blankSession, originAt, lifeTests, inLife, exists}
-use Rattle.model.specs.Lineage.{Descends, here, Reaches}
+use Rattle.model.specs.Lineage.{Descends, here, Reaches, last-step, one-step}
 use Rattle.model.specs.Rules.{sessionKeeps, sessionTests, sessionBlank}
 use Rattle.model.specs.Invariant.{Below, RoleRules}
 use Rattle.model.specs.Rulings.{value, refused, Guard, role, capability, opened, termsOf}
 use Rattle.model.specs.Sessions.{permits, permitTests, checkRuling}
 use Rattle.model.specs.Calls.{check, ruling}
-use Rattle.model.specs.Theorem.{asked, Yes, Contained, Sound, Entitled}
+use Rattle.model.specs.Theorem.{asked, Yes, Contained, Sound, RoleSound, Entitled}
 use Rattle.model.proofs.Settling.{Clear, verdict, verdict-cases, clear-verdict, step-answer}
 use Rattle.model.proofs.Authority.{authority-small}
 use Rattle.model.proofs.Kept.{Kept}
@@ -47,6 +47,19 @@ unfolding terms
 life-above r n m w h =
     let at = each→ (lifeTests (capability r n) (r .clock)) h in
     each← (lifeTests (capability r m) (r .clock)) (le→leb _ _ (le-trans (w .first) (leb→le _ _ (at .0))), (le→leb _ _ (le-trans (leb→le _ _ (at .1 .0)) (w .last)), tt))
+
+-- the role that a lineage reaches is one
+pub reaches-one : {derived : ℕ → Origin} {f n j k : ℕ} → Reaches derived f n j → Reaches derived f n k → j ≡ k
+reaches-one (last-step a) (last-step b) = cc
+reaches-one (last-step a) (one-step b q) = let z : _≡_ {A = ℕ} 0 1 = cc in absurd (omega arith)
+reaches-one (one-step a q) (last-step b) = let z : _≡_ {A = ℕ} 0 1 = cc in absurd (omega arith)
+reaches-one {derived = derived} {k = k} (one-step {f = f} {m = m} a q) (one-step {m = i} b p) =
+    let e : i ≡ m = cc in
+    reaches-one q (subst (λ (x : ℕ). Reaches derived f x k) e p)
+
+-- so every role that the lineage of an entitlement reaches is sound
+pub ends-each : (r : Register) (derived : ℕ → Origin) (user p n : ℕ) → Entitled r derived user p n → (k : ℕ) → Reaches derived (suc n) n k → RoleSound r p k
+ends-each r derived user p n h k q = subst (RoleSound r p) (reaches-one (h .ends .1) q) (h .ends .2)
 
 module _ (r : Register) (derived : ℕ → Origin) (k : Kept r) (shows : Shows r derived) where
   pub shown : {n m : ℕ} → n < r .count → Descends derived n m → Descends (originAt (r .capabilities)) n m
@@ -106,11 +119,10 @@ module _ (r : Register) (derived : ℕ → Origin) (k : Kept r) (shows : Shows r
               unrevoked = not-T ((capability r m) .revoked) (λ t. T-not ((capability r n) .revoked) (e .1 .0) (w .revoked t));
               alive = life-above r n m w (e .1 .1 .0);
             };
-        ends = λ j q.
-            record {
-              grants = within-has _ _ (reaches-below (r .enrolled) (r .roles) (r .count) (r .capabilities) (k .capabilities) derived shows l q .grants) p (e .1 .1 .1 .0);
-              alive = tt;
-            };
+        ends =
+            let end : (j : ℕ) × Reaches derived (suc n) n j × T ((role r j) .founded) = bounded-holds n l in
+            let w : Below (termsOf r (ofCapability n)) (termsOf r (ofRole (end .0))) = reaches-below (r .enrolled) (r .roles) (r .count) (r .capabilities) (k .capabilities) derived shows l (end .1) in
+            (end .0, end .1, record { grants = within-has _ _ (w .grants) p (e .1 .1 .1 .0); alive = tt });
       }
 
   entitled-permits : (n user p : ℕ) → Entitled r derived user p n → T (permits r (ofCapability n) user p)
@@ -126,7 +138,7 @@ module _ (r : Register) (derived : ℕ → Origin) (k : Kept r) (shows : Shows r
       let end : (j : ℕ) × Reaches derived (suc n) n j × T ((role r j) .founded) = bounded-holds n l in
       let rules : RoleRules (r .enrolled) (r .domains) (role r (end .0)) =
       role→ (r .enrolled) (r .domains) (end .0) (role r (end .0)) (end .2) (k .roles .role (end .0) (founded-lt (r .roles) (end .0) (k .roles .amount) (end .2))) in
-      has-lt 32 (roleAuthority (r .roles) (end .0)) p (authority-small (r .roles) (end .0) (rules .permissions)) (h .ends (end .0) (end .1) .grants)
+      has-lt 32 (roleAuthority (r .roles) (end .0)) p (authority-small (r .roles) (end .0) (rules .permissions)) (ends-each r derived user p n h (end .0) (end .1) .grants)
 
   pub exact-check-holds : (s p n : ℕ) → T (opened r s) → (sessionAt (r .sessions) s) .on ≡ ofCapability n
       → Yes r s p ↔ Entitled r derived ((sessionAt (r .sessions) s) .user) p n

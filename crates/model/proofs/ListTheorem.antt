@@ -8,7 +8,7 @@ use Rattle.model.proofs.Kept.{Kept}
 use Rattle.model.proofs.Rules.{kept→, kept←}
 use Rattle.model.proofs.Running.{run-keeps}
 use Rattle.model.proofs.History.{Shows, derived-shown}
-use Rattle.model.proofs.Checks.{containment-holds, bounded-holds, exact-check-holds}
+use Rattle.model.proofs.Checks.{reaches-one, containment-holds, bounded-holds, exact-check-holds}
 use Rattle.model.proofs.Revokes.{exact-revoke-holds}
 
 guarantee : (r : Register) (derived : ℕ → Origin) → Kept r → Shows r derived → Guarantee r derived
@@ -17,6 +17,7 @@ guarantee r derived k shows =
       formed = kept← r k;
       containment = containment-holds r derived k shows;
       bounded = bounded-holds r derived k shows;
+      one-end = λ n j i. reaches-one;
       exact-check = exact-check-holds r derived k shows;
       exact-revoke = exact-revoke-holds r derived k shows;
     }

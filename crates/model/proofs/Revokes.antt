@@ -2,14 +2,15 @@
 use mathlib.Core.Path.{_≡_, refl, sym, ap, ap₂, _∙_, subst}
 use mathlib.Core.Logic.{_⊎_, inl, inr, _↔_}
 use mathlib.Core.Bool.{Bool, true, false, cond, not, _&&_, _||_}
-use mathlib.Core.List.{List, [], _∷_}
-use Prim.Native.Nat.{ℕ, _<_}
+use mathlib.Core.List.{List}
+use Prim.Native.Nat.{ℕ, zero, suc, _+_, _<_}
+use native.Mathlib.Nat.{add-zero}
+use native.Mathlib.Numerals.{add-one}
 use native.Mathlib.Omega.{arith}
-use lib.Dec.{T, T-not, ltb→lt}
+use lib.Dec.{T, T-not, not-T, ltb→lt}
 use Rattle.masks.specs.Masks.{has}
 use Rattle.masks.specs.Tests.{each, countBelow, mapFrom}
-use Rattle.masks.proofs.Truth.{or-l, or-r, or-cases, T→true, true→T}
-use Rattle.masks.proofs.Bounded.{countBelow-ext}
+use Rattle.masks.proofs.Truth.{and-l, and-r, and-i, or-l, or-r, or-cases, T→true, T→false, true→T}
 use Rattle.model.specs.declared.Origin.{Origin}
 use Rattle.model.specs.declared.Origin.the-variants.{Role as ofRole, Capability as ofCapability}
 use Rattle.model.specs.declared.Capability.{Capability}
@@ -21,7 +22,7 @@ use Rattle.model.specs.Rulings.{value, refused, Effect, Guard, capabilit
 use Rattle.model.specs.Sessions.{permitting, permits, checkRuling}
 use Rattle.model.specs.Revocation.{marked, revokeRuling}
 use Rattle.model.specs.Calls.{check, revoke, ruling, step}
-use Rattle.model.specs.Theorem.{asked, next, Yes, Due, OnDue, ChangesCheck, Revokes}
+use Rattle.model.specs.Theorem.{asked, next, Yes, Due, CountOf, none, counted, skipped, OnDue, ChangesCheck, Revokes}
 use Rattle.model.proofs.Settling.{Clear, passed, Settled, accepted, declined, verdict, verdict-cases, step-answer}
 use Rattle.model.proofs.Kept.{Kept}
 use Rattle.model.proofs.Rules.{kept←}
@@ -31,6 +32,42 @@ use Rattle.model.proofs.Revoking.{revoke-at, revoke-frames, revoke-capa
 use Rattle.model.proofs.Running.{step-cases}
 use Rattle.model.proofs.History.{Shows}
 use Rattle.model.proofs.Checks.{value-refused, one-yes, shown, session-on, permits-entitled}
+
+-- ---- a number of things, and a count by a test that says the same of each
+
+module _ (P : ℕ → Type 0) (t : ℕ → Bool) where
+  count-next : (n v : ℕ) → T (t n) ↔ P n → CountOf P n v → CountOf P (suc n) (v + cond (t n) 1 0)
+  count-next n v h c = cases (t n) h
+    where
+      cases : (b : Bool) → T b ↔ P n → CountOf P (suc n) (v + cond b 1 0)
+      cases true g = subst (CountOf P (suc n)) (sym (add-one v)) (counted (g .0 tt) c)
+      cases false g = subst (CountOf P (suc n)) (sym (add-zero v)) (skipped (λ q. absurd (g .1 q)) c)
+
+  count-tested : (n : ℕ) → ((i : ℕ) → i < n → T (t i) ↔ P i) → CountOf P n (countBelow n t)
+  unfolding countBelow
+  count-tested zero h = none
+  count-tested (suc n) h = count-next n (countBelow n t) (h n (omega arith)) (count-tested n (λ i l. h i (omega arith)))
+
+  -- and it is the only number
+  count-one : {n v : ℕ} → ((i : ℕ) → i < n → T (t i) ↔ P i) → CountOf P n v → v ≡ countBelow n t
+  unfolding countBelow
+  count-one h none = refl
+  count-one {n = suc n} h (counted {v = v} q c) = rw (T→true (t n) (h n (omega arith) .1 q)) (rw (count-one (λ i l. h i (omega arith)) c) (sym (add-one _)))
+  count-one {n = suc n} h (skipped {v = v} q c) = rw (T→false (t n) (not-T (t n) (λ x. q (h n (omega arith) .0 x)))) (rw (count-one (λ i l. h i (omega arith)) c) (sym (add-zero _)))
+
+-- so the value of a revoke is the number of those newly marked too
+module _ (r r′ : Register) (derived : ℕ → Origin) (n v : ℕ) where
+  abbrev pub newly : ℕ → Bool
+  newly i = (capability r′ i) .revoked && not ((capability r i) .revoked)
+
+  pub newly-marked : Revokes r r′ derived n v → v ≡ countBelow (r .count) newly
+  newly-marked h =
+      count-one (Due r derived n) newly
+      (λ i l. (
+        (λ t. h .marks i l .0 (and-r ((capability r′ i) .revoked) (not ((capability r i) .revoked)) t, and-l ((capability r′ i) .revoked) (not ((capability r i) .revoked)) t)),
+        (λ d. and-i ((capability r′ i) .revoked) (not ((capability r i) .revoked)) (h .marks i l .1 d .1) (h .marks i l .1 d .0)),
+      ))
+      (h .counts)
 
 module _ (r : Register) (derived : ℕ → Origin) (k : Kept r) (shows : Shows r derived) where
   module _ (n : ℕ) (n-there : n < r .count) where
@@ -66,15 +103,17 @@ module _ (r : Register) (derived : ℕ → Origin) (k : Kept r) (shows : Shows r
     marks-only-hold : (i : ℕ) → i < r .count → capability revoked i ≡ withRevoked (capability r i) ((capability revoked i) .revoked)
     marks-only-hold i l = mark-at i l ∙ ap (λ (b : Bool). withRevoked (capability r i) b) (sym (marked-at i l))
 
-    counts-hold : countBelow (r .count) (λ i. inLineage (r .capabilities) n i && not ((capability r i) .revoked)) ≡ countBelow (r .count) (λ i. (capability revoked i) .revoked && not ((capability r i) .revoked))
+    abbrev due : ℕ → Bool
+    due i = inLineage (r .capabilities) n i && not ((capability r i) .revoked)
+
+    -- what the call counts is what is due
+    counts-hold : CountOf (Due r derived n) (r .count) (countBelow (r .count) due)
     counts-hold =
-        countBelow-ext (r .count) _ _
-        (λ i l. newly ((capability r i) .revoked) (inLineage (r .capabilities) n i) ∙ ap (λ (b : Bool). b && not ((capability r i) .revoked)) (sym (marked-at i l)))
-      where
-        newly : (old on : Bool) → (on && not old) ≡ ((old || on) && not old)
-        newly true true = refl
-        newly true false = refl
-        newly false on = refl
+        count-tested (Due r derived n) due (r .count)
+        (λ i l. (
+          (λ t. record { unmarked = and-r (inLineage (r .capabilities) n i) (not ((capability r i) .revoked)) t; descends = on→ i l (and-l (inLineage (r .capabilities) n i) (not ((capability r i) .revoked)) t) }),
+          (λ d. and-i (inLineage (r .capabilities) n i) (not ((capability r i) .revoked)) (on← i l (d .descends)) (d .unmarked)),
+        ))
 
     -- on a role nothing changes; on a capability, the yes of those that descend from n
     same-role : (j user p : ℕ) → permits revoked (ofRole j) user p ≡ permits r (ofRole j) user p
@@ -193,12 +232,12 @@ module _ (r : Register) (derived : ℕ → Origin) (k : Kept r) (shows : Shows r
           (sym (ap (λ (x : Effect Register). x .after) q))
           (record {
             marks = marks-hold n l;
-            counts = same-value (sym e ∙ ap (λ (x : Effect Register). x .answer) q) ∙ counts-hold n l;
+            counts = subst (CountOf (Due r derived n) (r .count)) (same-value (sym (ap (λ (x : Effect Register). x .answer) q) ∙ e)) (counts-hold n l);
             checks = checks-hold n l;
             keeps-marks = keeps-marks-hold n l;
             marks-only = marks-only-hold n l;
             capabilities-only = refl;
           })
         where
-          same-value : {w : ℕ} → value v ≡ value w → v ≡ w
+          same-value : {w : ℕ} → value w ≡ value v → w ≡ v
           same-value f = cc

@@ -2,12 +2,11 @@
 -- shelf rules. `proofs/ListTheorem.antt` proves it. Lists may contain same, save and load too.
 use mathlib.Core.Path.{_≡_}
 use mathlib.Core.Logic.{_↔_, _≢_}
-use mathlib.Core.Bool.{not, _&&_}
+use mathlib.Core.Bool.{not}
 use mathlib.Core.List.{List}
 use Prim.Native.Nat.{ℕ, suc, _≤_, _<_}
 use lib.Dec.{T}
 use Rattle.masks.specs.Masks.{has, within}
-use Rattle.masks.specs.Tests.{countBelow}
 use Rattle.model.specs.declared.Origin.{Origin}
 use Rattle.model.specs.declared.Origin.the-variants.{Role as ofRole, Capability as ofCapability}
 use Rattle.model.specs.declared.Register.{Register}
@@ -58,11 +57,11 @@ pub record RoleSound (r : Register) (p k : ℕ) : Type 0 where
   pub grants : T (has (roleAuthority (r .roles) k) p)
   pub alive : T (inLife (r .capabilities) (ofRole k) (r .clock))
 
--- the user holds capability n, and every capability on its lineage and the role where it ends are sound
+-- the user holds capability n, every capability on its lineage is sound, and the lineage reaches a role that is sound
 pub record Entitled (r : Register) (derived : ℕ → Origin) (user p n : ℕ) : Type 0 where
   pub holder : T (has ((capability r n) .holders) user)
   pub lineage : (m : ℕ) → Descends derived n m → Sound r p m
-  pub ends : (k : ℕ) → Reaches derived (suc n) n k → RoleSound r p k
+  pub ends : (k : ℕ) × Reaches derived (suc n) n k × RoleSound r p k
 
 -- ---- exact revokes
 
@@ -70,6 +69,12 @@ pub record Entitled (r : Register) (derived : ℕ → Origin) (user p n : ℕ) :
 pub record Due (r : Register) (derived : ℕ → Origin) (n i : ℕ) : Type 0 where
   pub unmarked : T (not ((capability r i) .revoked))
   pub descends : Descends derived i n
+
+-- v of the numbers below n satisfy P
+pub data CountOf (P : ℕ → Type 0) : (n v : ℕ) → Type 0 where
+  none : CountOf P 0 0
+  counted : {n v : ℕ} → P n → CountOf P n v → CountOf P (suc n) (suc v)
+  skipped : {n v : ℕ} → ¬ P n → CountOf P n v → CountOf P (suc n) v
 
 -- "A revoke changes a check if the same check, asked just before and just after it, answers differently."
 abbrev pub ChangesCheck : Register → Register → ℕ → ℕ → Type 0
@@ -83,8 +88,8 @@ OnDue r derived n s = (i : ℕ) × ((sessionAt (r .sessions) s) .on ≡ ofCapabi
 pub record Revokes (r r′ : Register) (derived : ℕ → Origin) (n v : ℕ) : Type 0 where
   -- it marks exactly the unmarked capabilities from the named one downward
   pub marks : (i : ℕ) → i < r .count → (T (not ((capability r i) .revoked)) × T ((capability r′ i) .revoked)) ↔ Due r derived n i
-  -- its value is their number
-  pub counts : v ≡ countBelow (r .count) (λ i. (capability r′ i) .revoked && not ((capability r i) .revoked))
+  -- its value is the number of those that are due
+  pub counts : CountOf (Due r derived n) (r .count) v
   -- the checks it changes are exactly the yes answers of sessions on those
   pub checks : (s p : ℕ) → ChangesCheck r r′ s p ↔ (Yes r s p × OnDue r derived n s)
   -- nothing else changes: no mark is taken away, no other field of a capability, no other part of the register
@@ -101,6 +106,8 @@ pub record Guarantee (r : Register) (derived : ℕ → Origin) : Type 0 where
   pub containment : (lower upper : ℕ) → lower < r .count → Descends derived lower upper → Contained r lower upper
   -- the lineage of capability n reaches a founded role in at most n + 1 steps
   pub bounded : (n : ℕ) → n < r .count → (k : ℕ) × Reaches derived (suc n) n k × T ((role r k) .founded)
+  -- and no other role
+  pub one-end : (n j k : ℕ) → Reaches derived (suc n) n j → Reaches derived (suc n) n k → j ≡ k
   -- a session on a capability is told yes for a permission exactly when it is entitled to it
   pub exact-check : (s p n : ℕ) → T (opened r s) → (sessionAt (r .sessions) s) .on ≡ ofCapability n
       → Yes r s p ↔ Entitled r derived ((sessionAt (r .sessions) s) .user) p n
