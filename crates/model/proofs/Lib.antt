@@ -30,3 +30,4 @@ pub mod Cases
 pub mod OrderCases
 pub mod JournalCases
 pub mod ImageCases
+pub mod Runs

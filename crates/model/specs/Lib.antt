@@ -20,6 +20,7 @@ pub mod Entry
 pub mod Requests
 pub mod Lists
 pub mod Theorem
+pub mod Runs
 pub mod Edges
 pub mod Listing
 pub mod Cases

@@ -1,0 +1,138 @@
+-- A journal and batches are lists; what one call from C returns.
+use mathlib.Core.Path.{_≡_, refl, sym, ap, _∙_, subst}
+use mathlib.Core.Bool.{Bool, true, false, cond}
+use mathlib.Core.List.{List, [], _∷_, _++_, map, append-assoc}
+use mathlib.Core.Option.{Option, none, some}
+use Prim.Native.Nat.{ℕ, _+_, _≤_, _<_}
+use native.Mathlib.Omega.{arith}
+use borrow.Author.Tests.{le-leb, lt-leb, leb-true}
+use lib.Dec.{T, leb}
+use lib.ListN.{length}
+use Rattle.masks.specs.Bytes.{split}
+use Rattle.masks.proofs.Truth.{true→T}
+use Rattle.model.specs.declared.Origin.{Origin}
+use Rattle.model.specs.declared.Register.{Register}
+use Rattle.model.specs.State.{fresh, originAt}
+use Rattle.model.specs.Rulings.{Outcome, value, refused}
+use Rattle.model.specs.Calls.{Call, step}
+use Rattle.model.specs.Image.{encode, decode, loads}
+use Rattle.model.specs.Lines.{parse, printed}
+use Rattle.model.specs.Journal.{requested, lineEffect, unended, transcript, journal}
+use Rattle.model.specs.Entry.{Return, declined, done, soleLine, fitted, answered, called, entry}
+use Rattle.model.specs.Lists.{Event, perform, calls, run, answers, derivedNext, derivedAfter, derivedFrom}
+use Rattle.model.specs.Theorem.{asked, next}
+use Rattle.model.specs.Runs.{linesOf, lastOf, callsAmong, listOf, interleaved, lineAnswers, printedAll, JournalRuns, BatchesRun, Accepted, EntryReturns}
+use Rattle.model.proofs.ListTheorem.{list-theorem}
+use Rattle.model.proofs.Edges.{fresh-formed}
+
+-- ---- a journal
+
+-- one line, and the lines after it
+line-more : (r : Register) (q : Option Call) (qs : List (Option Call)) (rest : Register → List ℕ) →
+    let r′ : Register = (requested r q) .after in
+    printed ((requested r q) .answer) ++ (printedAll (interleaved qs (answers r′ (calls (callsAmong qs)))) ++ rest (run r′ (calls (callsAmong qs))))
+    ≡ printedAll (interleaved (q ∷ qs) (answers r (calls (callsAmong (q ∷ qs))))) ++ rest (run r (calls (callsAmong (q ∷ qs))))
+unfolding run answers perform
+line-more r none qs rest = sym (append-assoc (printed (refused 1)) _ _)
+line-more r (some c) qs rest = sym (append-assoc (printed ((step r c) .answer)) _ _)
+
+transcript-more : (r : Register) (line : List ℕ) (lines : List (List ℕ)) (part : List ℕ) (more : List (List ℕ))
+    → transcript r (line ∷ (lines ++ (part ∷ more))) ≡ printed ((lineEffect r line) .answer) ++ transcript ((lineEffect r line) .after) (lines ++ (part ∷ more))
+unfolding transcript
+transcript-more r line [] part more = refl
+transcript-more r line (x ∷ lines) part more = refl
+
+lines-list : (r : Register) (lines : List (List ℕ)) (part : List ℕ) (more : List (List ℕ))
+    → transcript r (lines ++ (part ∷ more)) ≡ printedAll (lineAnswers r lines) ++ transcript (run r (listOf lines)) (part ∷ more)
+unfolding run answers lineEffect
+lines-list r [] part more = refl
+lines-list r (line ∷ lines) part more =
+    transcript-more r line lines part more
+    ∙ ap (λ (l : List ℕ). printed ((lineEffect r line) .answer) ++ l) (lines-list ((lineEffect r line) .after) lines part more)
+    ∙ line-more r (parse line) (map parse lines) (λ q. transcript q (part ∷ more))
+
+-- the lines and the last part are the parts
+parts-again : (part : List ℕ) (more : List (List ℕ)) → linesOf (part ∷ more) ++ (lastOf (part ∷ more) ∷ []) ≡ part ∷ more
+parts-again part [] = refl
+parts-again part (x ∷ more) = ap (λ (l : List (List ℕ)). part ∷ l) (parts-again x more)
+
+transcript-list : (r : Register) (parts : List (List ℕ)) → transcript r parts ≡ printedAll (lineAnswers r (linesOf parts)) ++ unended (lastOf parts)
+unfolding transcript answers
+transcript-list r [] = refl
+transcript-list r (part ∷ more) = ap (transcript r) (sym (parts-again part more)) ∙ lines-list r (linesOf (part ∷ more)) (lastOf (part ∷ more)) []
+
+pub journal-runs : JournalRuns
+unfolding journal
+journal-runs =
+    record {
+      output = λ r input h. rw (le-leb _ _ h, journal) (transcript-list r (split 10 input));
+      longer = λ r input h. rw (lt-leb _ _ h, journal);
+      register = lines-list;
+      guaranteed = λ lines. list-theorem fresh (listOf lines) fresh-formed;
+    }
+
+-- ---- batches
+
+run-append : (r : Register) (first second : List Event) → run r (first ++ second) ≡ run (run r first) second
+unfolding run
+run-append r [] second = refl
+run-append r (e ∷ first) second = run-append ((perform r e) .after) first second
+
+answers-append : (r : Register) (first second : List Event) → answers r (first ++ second) ≡ answers r first ++ answers (run r first) second
+unfolding run answers
+answers-append r [] second = refl
+answers-append r (e ∷ first) second = ap (λ (l : List Outcome). (perform r e) .answer ∷ l) (answers-append ((perform r e) .after) first second)
+
+derived-append : (r : Register) (first second : List Event) (d : ℕ → Origin)
+    → derivedAfter r (first ++ second) d ≡ derivedAfter (run r first) second (derivedAfter r first d)
+unfolding run derivedAfter
+derived-append r [] second d = refl
+derived-append r (e ∷ first) second d = derived-append ((perform r e) .after) first second (derivedNext e ((perform r e) .answer) d)
+
+pub batches-run : BatchesRun
+unfolding derivedFrom
+batches-run =
+    record {
+      register = run-append;
+      answered = answers-append;
+      derived = λ r first second. derived-append r first second (originAt (r .capabilities));
+    }
+
+-- ---- one call from C
+
+declined-done : {A : Type 0} {n v : ℕ} {image : List ℕ} → declined n ≡ done v image → A
+declined-done e = let z : _≡_ {A = ℕ} 0 1 = cc in absurd (omega arith)
+
+module _ (image line new : List ℕ) (room v : ℕ) (l : T (loads image)) (c : Call) (e : soleLine (split 10 line) ≡ some c) where
+  -- the answer a and the register z after it
+  by-answer : (a : Outcome) (z : Register) → asked (decode image) c ≡ a → next (decode image) c ≡ z → answered room a z ≡ done v new
+      → Accepted image line room v new c
+  by-answer (refused n) z ea ez h = declined-done h
+  by-answer (value w) z ea ez h = by-room (leb (length (encode z) + 2) room) refl h
+    where
+      by-room : (b : Bool) → leb (length (encode z) + 2) room ≡ b → cond b (done w (encode z)) (declined 16) ≡ done v new → Accepted image line room v new c
+      by-room false eb g = declined-done g
+      by-room true eb g =
+          let image-same : encode z ≡ new = cc in
+          let value-same : w ≡ v = cc in
+          record {
+            loaded = l;
+            said = e;
+            answer = ea ∙ ap value value-same;
+            saved = sym image-same ∙ ap encode (sym ez);
+            fits = subst (λ (s : List ℕ). length s + 2 ≤ room) image-same (leb-true _ _ eb);
+          }
+
+pub entry-returns : EntryReturns
+unfolding entry
+entry-returns image line new room v = by-image (loads image) refl
+  where
+    by-line : T (loads image) → (q : Option Call) → soleLine (split 10 line) ≡ q → called room (decode image) q ≡ done v new → (c : Call) × Accepted image line room v new c
+    by-line l none e h = declined-done h
+    by-line l (some c) e h = (c, by-answer image line new room v l c e _ _ refl refl h)
+
+    by-image : (b : Bool) → loads image ≡ b
+        → (elim b as (λ x. Return) [ true ↦ called room (decode image) (soleLine (split 10 line)) | false ↦ declined 14 ]) ≡ done v new
+        → (c : Call) × Accepted image line room v new c
+    by-image false e h = declined-done h
+    by-image true e h = by-line (true→T (loads image) e) (soleLine (split 10 line)) refl h

@@ -1,0 +1,151 @@
+-- What runs is a list of calls, so that `ListTheorem` speaks of it: a journal, batches one after the other, and a chain of calls
+-- from C. `proofs/Runs.antt` proves the first two and what one call from C returns; crate `promise` proves the chain.
+use mathlib.Core.Path.{_≡_}
+use mathlib.Core.List.{List, [], _∷_, _++_, map}
+use mathlib.Core.Option.{Option, none, some}
+use Prim.Native.Nat.{ℕ, _+_, _≤_, _<_}
+use lib.Dec.{T}
+use lib.ListN.{length, take, drop}
+use Rattle.masks.specs.Bytes.{numberOf, firstBytes, split}
+use Rattle.model.specs.declared.Origin.{Origin}
+use Rattle.model.specs.declared.Register.{Register}
+use Rattle.model.specs.State.{fresh}
+use Rattle.model.specs.Rulings.{Outcome, value, refused}
+use Rattle.model.specs.Calls.{Call}
+use Rattle.model.specs.Image.{encode, decode, loads}
+use Rattle.model.specs.Lines.{parse, printed}
+use Rattle.model.specs.Journal.{unended, transcript, journal}
+use Rattle.model.specs.Entry.{Return, declined, done, soleLine, entry, bufferAfter}
+use Rattle.model.specs.Lists.{Event, calls, run, answers, derivedAfter, derivedFrom}
+use Rattle.model.specs.Theorem.{asked, next, Guarantee}
+
+-- ---- a journal: `player::journal`
+
+-- of the parts between line feeds, the lines: all but the last, which no line feed ends
+abbrev pub linesOf : List (List ℕ) → List (List ℕ)
+linesOf [] = []
+linesOf (part ∷ []) = []
+linesOf (part ∷ other ∷ more) = part ∷ linesOf (other ∷ more)
+
+abbrev pub lastOf : List (List ℕ) → List ℕ
+lastOf [] = []
+lastOf (part ∷ []) = part
+lastOf (part ∷ other ∷ more) = lastOf (other ∷ more)
+
+-- the calls of the lines that parse
+abbrev pub callsAmong : List (Option Call) → List Call
+callsAmong [] = []
+callsAmong (none ∷ more) = callsAmong more
+callsAmong (some c ∷ more) = c ∷ callsAmong more
+
+abbrev pub listOf : List (List ℕ) → List Event
+listOf lines = calls (callsAmong (map parse lines))
+
+-- an answer for each line, in their order: 1 to a malformed one, to any other the next of those that its call gets
+abbrev pub interleaved : List (Option Call) → List Outcome → List Outcome
+interleaved [] told = []
+interleaved (none ∷ more) told = refused 1 ∷ interleaved more told
+interleaved (some c ∷ more) [] = []
+interleaved (some c ∷ more) (a ∷ told) = a ∷ interleaved more told
+
+abbrev pub lineAnswers : Register → List (List ℕ) → List Outcome
+lineAnswers r lines = interleaved (map parse lines) (answers r (listOf lines))
+
+abbrev pub printedAll : List Outcome → List ℕ
+printedAll [] = []
+printedAll (a ∷ more) = printed a ++ printedAll more
+
+pub record JournalRuns : Type 0 where
+  -- the answers to its lines, and 1 where something follows the last line feed
+  pub output : (r : Register) (input : List ℕ) → length input ≤ 32768
+      → journal r input ≡ printedAll (lineAnswers r (linesOf (split 10 input))) ++ unended (lastOf (split 10 input))
+  -- a longer input is not performed
+  pub longer : (r : Register) (input : List ℕ) → 32768 < length input → journal r input ≡ printed (refused 1)
+  -- behind any lines of it stands the register of their list: what follows is answered on that
+  pub register : (r : Register) (lines : List (List ℕ)) (part : List ℕ) (more : List (List ℕ))
+      → transcript r (lines ++ (part ∷ more)) ≡ printedAll (lineAnswers r lines) ++ transcript (run r (listOf lines)) (part ∷ more)
+  -- so the guarantee holds behind any lines of the program, which starts fresh
+  pub guaranteed : (lines : List (List ℕ)) → Guarantee (run fresh (listOf lines)) (derivedFrom fresh (listOf lines))
+
+-- ---- batches, as of `batch::apply_all`: one after the other they are one list
+
+pub record BatchesRun : Type 0 where
+  pub register : (r : Register) (first second : List Event) → run r (first ++ second) ≡ run (run r first) second
+  pub answered : (r : Register) (first second : List Event) → answers r (first ++ second) ≡ answers r first ++ answers (run r first) second
+  -- the origins by history go on from those of the first
+  pub derived : (r : Register) (first second : List Event) → derivedFrom r (first ++ second) ≡ derivedAfter (run r first) second (derivedFrom r first)
+
+-- ---- calls from C: `fellunqa::fellunqa_apply`
+
+-- a call c, on the register of one image, with the value v and another image
+pub record Accepted (image line : List ℕ) (room v : ℕ) (new : List ℕ) (c : Call) : Type 0 where
+  pub loaded : T (loads image)
+  pub said : soleLine (split 10 line) ≡ some c
+  pub answer : asked (decode image) c ≡ value v
+  pub saved : new ≡ encode (next (decode image) c)
+  pub fits : length new + 2 ≤ room
+
+-- a return of a value is of a call that the line says
+abbrev pub EntryReturns : Type 0
+EntryReturns = (image line new : List ℕ) (room v : ℕ) → entry image line room ≡ done v new → (c : Call) × Accepted image line room v new c
+
+-- one call from C: a line, and the area that is lent
+pub record Invocation : Type 0 where
+  pub line : List ℕ
+  pub area : List ℕ
+
+abbrev pub invoked : List ℕ → Invocation → Return
+invoked image i = entry image (i .line) (length (i .area))
+
+-- the image in an area: two bytes are its length
+abbrev pub imageIn : List ℕ → List ℕ
+imageIn area = take (numberOf (firstBytes 2 area)) (drop 2 area)
+
+-- what C keeps: accepted, the image in the area; refused, the one that it had
+abbrev pub imageAfter : List ℕ → List ℕ → Return → List ℕ
+imageAfter image area (declined n) = image
+imageAfter image area (done v new) = imageIn (bufferAfter (done v new) area)
+
+abbrev pub keptImage : List ℕ → Invocation → List ℕ
+keptImage image i = imageAfter image (i .area) (invoked image i)
+
+-- each call is on the image that was kept before it
+unfoldable pub chain : List ℕ → List Invocation → List ℕ
+chain image [] = image
+chain image (i ∷ more) = chain (keptImage image i) more
+
+-- the list of a chain: the calls that were accepted
+abbrev pub addCall : Return → Option Call → List Call → List Call
+addCall (declined n) q cs = cs
+addCall (done v new) none cs = cs
+addCall (done v new) (some c) cs = c ∷ cs
+
+unfoldable pub chainCalls : List ℕ → List Invocation → List Call
+chainCalls image [] = []
+chainCalls image (i ∷ more) = addCall (invoked image i) (soleLine (split 10 (i .line))) (chainCalls (keptImage image i) more)
+
+-- the values that were returned
+abbrev pub addValue : Return → List Outcome → List Outcome
+addValue (declined n) told = told
+addValue (done v new) told = value v ∷ told
+
+unfoldable pub chainValues : List ℕ → List Invocation → List Outcome
+chainValues image [] = []
+chainValues image (i ∷ more) = addValue (invoked image i) (chainValues (keptImage image i) more)
+
+abbrev pub chainList : List ℕ → List Invocation → List Event
+chainList image is = calls (chainCalls image is)
+
+-- from an image that load accepts
+pub record EntryRuns : Type 0 where
+  -- a return of a value leaves in the area an image that is accepted, and its register is the call's
+  pub accepted : (image line area new : List ℕ) (v : ℕ) (c : Call) → Accepted image line (length area) v new c
+      → (imageIn (bufferAfter (done v new) area) ≡ new) × T (loads new) × (decode new ≡ next (decode image) c)
+  -- the last image of a chain is accepted, its register is that of the list, and it is that register's image
+  pub loaded : (image : List ℕ) (is : List Invocation) → T (loads image) → T (loads (chain image is))
+  pub register : (image : List ℕ) (is : List Invocation) → T (loads image) → decode (chain image is) ≡ run (decode image) (chainList image is)
+  pub saved : (image : List ℕ) (is : List Invocation) → T (loads image) → chain image is ≡ encode (run (decode image) (chainList image is))
+  -- the values that were returned are the list's answers
+  pub answered : (image : List ℕ) (is : List Invocation) → T (loads image) → answers (decode image) (chainList image is) ≡ chainValues image is
+  -- so the guarantee holds of what C keeps
+  pub guaranteed : (image : List ℕ) (is : List Invocation) → T (loads image) → Guarantee (decode (chain image is)) (derivedFrom (decode image) (chainList image is))
