@@ -3,7 +3,7 @@ use mathlib.Core.Path.{_≡_, refl, sym, ap, _∙_, subst}
 use mathlib.Core.Bool.{Bool, true, false, cond}
 use mathlib.Core.List.{List, [], _∷_, _++_, map, append-assoc}
 use mathlib.Core.Option.{Option, none, some}
-use Prim.Native.Nat.{ℕ, _+_, _≤_, _<_}
+use Prim.Native.Nat.{ℕ, _+_, _≤_}
 use native.Mathlib.Omega.{arith}
 use borrow.Author.Tests.{le-leb, lt-leb, leb-true}
 use lib.Dec.{T, leb}
@@ -18,7 +18,7 @@ use Rattle.model.specs.Calls.{Call, step}
 use Rattle.model.specs.Image.{encode, decode, loads}
 use Rattle.model.specs.Lines.{parse, printed}
 use Rattle.model.specs.Journal.{requested, lineEffect, unended, transcript, journal}
-use Rattle.model.specs.Entry.{Return, declined, done, soleLine, fitted, answered, called, entry}
+use Rattle.model.specs.Entry.{Return, declined, done, soleLine, answered, called, entry}
 use Rattle.model.specs.Lists.{Event, perform, calls, run, answers, derivedNext, derivedAfter, derivedFrom}
 use Rattle.model.specs.Theorem.{asked, next}
 use Rattle.model.specs.Runs.{linesOf, lastOf, callsAmong, listOf, interleaved, lineAnswers, printedAll, JournalRuns, BatchesRun, Accepted, EntryReturns}

@@ -1,5 +1,5 @@
 -- What runs is a list of calls, so that `ListTheorem` speaks of it: a journal, batches one after the other, and a chain of calls
--- from C. `proofs/Runs.antt` proves the first two and what one call from C returns; crate `promise` proves the chain.
+-- from C. `proofs/Runs.antt` proves the first two and `EntryReturns`; crate `promise`, above the round trip of images, `EntryRuns`.
 use mathlib.Core.Path.{_≡_}
 use mathlib.Core.List.{List, [], _∷_, _++_, map}
 use mathlib.Core.Option.{Option, none, some}
@@ -7,7 +7,6 @@ use Prim.Native.Nat.{ℕ, _+_, _≤_, _<_}
 use lib.Dec.{T}
 use lib.ListN.{length, take, drop}
 use Rattle.masks.specs.Bytes.{numberOf, firstBytes, split}
-use Rattle.model.specs.declared.Origin.{Origin}
 use Rattle.model.specs.declared.Register.{Register}
 use Rattle.model.specs.State.{fresh}
 use Rattle.model.specs.Rulings.{Outcome, value, refused}
@@ -77,7 +76,7 @@ pub record BatchesRun : Type 0 where
 
 -- ---- calls from C: `fellunqa::fellunqa_apply`
 
--- a call c, on the register of one image, with the value v and another image
+-- call c is what the line says; on the register of `image` it has the value v, and `new` is the image of the register after it
 pub record Accepted (image line : List ℕ) (room v : ℕ) (new : List ℕ) (c : Call) : Type 0 where
   pub loaded : T (loads image)
   pub said : soleLine (split 10 line) ≡ some c
@@ -136,12 +135,11 @@ chainValues image (i ∷ more) = addValue (invoked image i) (chainValues (keptIm
 abbrev pub chainList : List ℕ → List Invocation → List Event
 chainList image is = calls (chainCalls image is)
 
--- from an image that load accepts
 pub record EntryRuns : Type 0 where
   -- a return of a value leaves in the area an image that is accepted, and its register is the call's
-  pub accepted : (image line area new : List ℕ) (v : ℕ) (c : Call) → Accepted image line (length area) v new c
-      → (imageIn (bufferAfter (done v new) area) ≡ new) × T (loads new) × (decode new ≡ next (decode image) c)
-  -- the last image of a chain is accepted, its register is that of the list, and it is that register's image
+  pub accepted : (image line area new : List ℕ) (v : ℕ) → entry image line (length area) ≡ done v new
+      → (c : Call) × Accepted image line (length area) v new c × (imageIn (bufferAfter (done v new) area) ≡ new) × T (loads new) × (decode new ≡ next (decode image) c)
+  -- from an accepted image, the last image of a chain is accepted, its register is that of the list, and it is that register's image
   pub loaded : (image : List ℕ) (is : List Invocation) → T (loads image) → T (loads (chain image is))
   pub register : (image : List ℕ) (is : List Invocation) → T (loads image) → decode (chain image is) ≡ run (decode image) (chainList image is)
   pub saved : (image : List ℕ) (is : List Invocation) → T (loads image) → chain image is ≡ encode (run (decode image) (chainList image is))

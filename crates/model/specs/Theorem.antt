@@ -1,5 +1,8 @@
 -- Document 01's third demand: one claim about every list of calls, refused ones included, from any register that keeps the
 -- shelf rules. `proofs/ListTheorem.antt` proves it. Lists may contain same, save and load too.
+-- What runs is such a list (`Runs.antt`): `JournalRuns` by the contract of `player::journal`, `BatchesRun` by that of
+-- `batch::apply_all`, `EntryReturns` and `EntryRuns` by that of `fellunqa::fellunqa_apply`; a list's save and load are `image::save`
+-- and `image::load`. Crate `promise` has all of it in one record.
 use mathlib.Core.Path.{_≡_}
 use mathlib.Core.Logic.{_↔_, _≢_}
 use mathlib.Core.Bool.{not}
