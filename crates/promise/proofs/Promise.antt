@@ -1,0 +1,24 @@
+-- The whole promise, each part by the proof that its crate has of it.
+use Rattle.model.proofs.ListTheorem.{list-theorem}
+use Rattle.model.proofs.Runs.{journal-runs, batches-run, entry-returns}
+use Rattle.model.proofs.Edges.{fresh-formed, edges}
+use Rattle.model.proofs.Listing.{listing-played}
+use Rattle.image.proofs.RoundTrip.{image-laws}
+use Rattle.promise.specs.Promise.{Promise}
+use Rattle.promise.proofs.Chain.{entry-runs}
+use Rattle.promise.proofs.Contracts.{contracts}
+
+pub promise : Promise
+promise =
+    record {
+      list-theorem = list-theorem;
+      fresh-start = fresh-formed;
+      journal-runs = journal-runs;
+      batches-run = batches-run;
+      entry-returns = entry-returns;
+      entry-runs = entry-runs;
+      image-laws = image-laws;
+      edges = edges;
+      listing = listing-played;
+      contracts = contracts;
+    }
