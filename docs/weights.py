@@ -44,7 +44,7 @@ def main():
 def format_row(name, row, seconds):
     functions, code, specs, laws, by_function, edits = row
     cells = [functions, code, specs, laws, by_function]
-    ratio = f"{(laws + by_function) / code:.1f}"
+    ratio = f"{(laws + by_function) / code:.1f}" if code else ""
     return f"| {name} | " + " | ".join(f"{n:,}" for n in cells) + f" | {ratio} | {seconds} | {edits} |"
 
 
