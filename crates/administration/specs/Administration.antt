@@ -1,3 +1,4 @@
+-- Intermediate: the code's own terms, proved to come to the definitions of `model`.
 -- The calls of administration over the elements that they name: the model's rulings, on the elements that are read.
 use Prim.Native.Nat.{ℕ}
 use Rattle.model.specs.Rulings.{Effect, into, ruled}

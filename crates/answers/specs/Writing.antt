@@ -1,3 +1,4 @@
+-- Intermediate: the code's own terms, proved to come to the definitions of `model`.
 -- What a writer of text does to the buffer that it is lent.
 use mathlib.Core.Bool.{cond}
 use mathlib.Core.List.{List}

@@ -1,3 +1,4 @@
+-- Intermediate: the code's own terms, proved to come to the definitions of `model`.
 -- create over the elements that it names: the model's ruling, on the elements that are read.
 use mathlib.Core.List.{List}
 use Prim.Native.Nat.{ℕ, suc, _%_}

@@ -1,3 +1,4 @@
+-- Intermediate: the code's own terms, proved to come to the definitions of `model`.
 -- What an image must be beside holding a register that keeps the rules, decided while it is read: `proofs/Exact.antt` of `image`
 -- shows that exactly such bytes are what their register saves.
 use mathlib.Core.Bool.{Bool, true, _&&_}

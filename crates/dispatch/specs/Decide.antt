@@ -1,3 +1,4 @@
+-- Intermediate: the code's own terms, proved to come to the definitions of `model`.
 -- A request decided over the elements that it names.
 use mathlib.Core.List.{List}
 use Prim.Native.Nat.{ℕ}

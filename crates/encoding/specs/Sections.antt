@@ -1,3 +1,4 @@
+-- Intermediate: the code's own terms, proved to come to the definitions of `model`.
 -- What the sections of an image are, beside the definitions of `model`.
 use mathlib.Core.List.{List, _++_}
 use Prim.Native.Nat.{ℕ}

@@ -1,3 +1,4 @@
+-- Intermediate: the code's own terms, proved to come to the definitions of `model`.
 -- A call on a register that keeps the rules, as the entry point returns it.
 use Prim.Native.Nat.{ℕ}
 use Rattle.model.specs.declared.Register.{Register}

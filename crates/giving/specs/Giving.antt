@@ -1,3 +1,4 @@
+-- Intermediate: the code's own terms, proved to come to the definitions of `model`.
 -- hand, allow and lend over the elements that they name: the model's rulings on a capability, for the one that is read.
 use mathlib.Core.List.{List}
 use Prim.Native.Nat.{ℕ}

@@ -7,7 +7,7 @@ use Prim.Native.Nat.{ℕ, zero, suc, _≤_, _<_}
 use lib.Dec.{T, eqb, leb, ltb, not-T, leb→le, le→leb, ltb→lt, lt→ltb, eqb→eq, eqb-refl, nleb→lt, nltb→le}
 use lib.ListN.{getD}
 use native.Mathlib.Omega.{arith}
-use Rattle.masks.specs.Tests.{each, implies}
+use Rattle.masks.specs.Tests.{each, Each, implies}
 
 -- what is known of a result, by what it is equal to
 pub told : {A : Type 0} {x y z : A} → x ≡ y → x ≡ z → y ≡ z
@@ -85,11 +85,7 @@ same-test true false f g = absurd (f tt)
 same-test false true f g = absurd (g tt)
 same-test false false f g = refl
 
--- a list of tests that all pass, as a nested tuple of facts: `(h₀, (h₁, (h₂, tt)))`
-abbrev pub Each : List Bool → Type 0
-Each [] = Unit {0}
-Each (t ∷ ts) = T t × Each ts
-
+-- a list of tests that all pass
 pub each→ : (ts : List Bool) → T (each ts) → Each ts
 each→ [] h = tt
 each→ (t ∷ ts) h = (and-l t (each ts) h, each→ ts (and-r t (each ts) h))

@@ -2,12 +2,18 @@
 use mathlib.Core.Bool.{Bool, true, cond, not, _&&_, _||_}
 use mathlib.Core.List.{List, [], _∷_}
 use Prim.Native.Nat.{ℕ, zero, suc, _+_}
+use lib.Dec.{T}
 use lib.ListN.{getD, set}
 
 -- all of a list of tests
 abbrev pub each : List Bool → Bool
 each [] = true
 each (t ∷ ts) = t && each ts
+
+-- the same as facts, a nested tuple: `(h₀, (h₁, (h₂, tt)))`
+abbrev pub Each : List Bool → Type 0
+Each [] = Unit {0}
+Each (t ∷ ts) = T t × Each ts
 
 abbrev pub implies : Bool → Bool → Bool
 implies a b = not a || b

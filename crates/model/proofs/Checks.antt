@@ -9,7 +9,8 @@ use native.Mathlib.Decide.{decLt}
 use native.Mathlib.Omega.{arith}
 use lib.Dec.{T, T-not, not-T, lt→ltb, ltb→lt, leb→le, le→leb}
 use lib.ListN.{List·getD-eq-default}
-use Rattle.masks.proofs.Truth.{Each, each→, each←, cond-yes, T→true}
+use Rattle.masks.specs.Tests.{Each}
+use Rattle.masks.proofs.Truth.{each→, each←, cond-yes, T→true}
 use Rattle.masks.proofs.MaskLaws.{within-has, has-lt}
 use Rattle.model.specs.declared.Origin.{Origin}
 use Rattle.model.specs.declared.Origin.the-variants.{Role as ofRole, Capability as ofCapability}
@@ -19,11 +20,11 @@ use Rattle.model.specs.State.{terms, roleAuthority, sessionAt, blankSess
 use Rattle.model.specs.Lineage.{Descends, here, Reaches, last-step, one-step}
 use Rattle.model.specs.Rules.{sessionKeeps, sessionTests, sessionBlank}
 use Rattle.model.specs.Invariant.{Below, RoleRules}
-use Rattle.model.specs.Rulings.{value, refused, Guard, role, capability, opened, termsOf}
+use Rattle.model.specs.Rulings.{value, refused, Guard, role, capability, opened, termsOf, Clear, verdict}
 use Rattle.model.specs.Sessions.{permits, permitTests, checkRuling}
 use Rattle.model.specs.Calls.{check, ruling}
 use Rattle.model.specs.Theorem.{asked, Yes, Contained, Sound, RoleSound, Entitled}
-use Rattle.model.proofs.Settling.{Clear, verdict, verdict-cases, clear-verdict, step-answer}
+use Rattle.model.proofs.Settling.{verdict-cases, clear-verdict, step-answer}
 use Rattle.model.proofs.Authority.{authority-small}
 use Rattle.model.proofs.Kept.{Kept}
 use Rattle.model.proofs.Places.{role→}

@@ -23,11 +23,11 @@ use Rattle.model.specs.Lineage.{children, isParent}
 use Rattle.model.specs.Rules.{earlier}
 use Rattle.model.specs.Setters.{withCreations}
 use Rattle.model.specs.Delegation.{createRuling, creationCounted}
-use Rattle.model.specs.Rulings.{termsOf}
+use Rattle.model.specs.Rulings.{termsOf, Clear}
 use Rattle.masks.proofs.Truth.{T→true, T→false}
 use Rattle.masks.proofs.Bounded.{set-cases, countBelow-ext, countBelow-none}
 use Rattle.masks.proofs.MaskLaws.{within-zero}
-use Rattle.model.proofs.Settling.{Clear, passed}
+use Rattle.model.proofs.Settling.{passed}
 use Rattle.model.specs.Invariant.{Below}
 use Rattle.model.proofs.Kept.{below→, OwnKept, CapabilityKept, CapabilitiesKept, Kept}
 use Rattle.model.proofs.Tree.{there-exists, falls}

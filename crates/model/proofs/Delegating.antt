@@ -11,9 +11,9 @@ use Rattle.masks.proofs.MaskLaws.{within-refl, within-or, within-or-l, within-o
 use Rattle.model.specs.State.{terms, claims, authority, lentAuthority, originAt, exists}
 use Rattle.model.specs.Invariant.{Below}
 use Rattle.model.specs.Setters.{withPermissions, withLent, withHolders}
-use Rattle.model.specs.Rulings.{capability, termsOf}
+use Rattle.model.specs.Rulings.{capability, termsOf, Clear}
 use Rattle.model.specs.Delegation.{allowRuling, lendRuling, handRuling}
-use Rattle.model.proofs.Settling.{Clear, passed}
+use Rattle.model.proofs.Settling.{passed}
 use Rattle.model.proofs.Kept.{OwnKept, Kept}
 use Rattle.model.proofs.Frames.{framed, own-framed, grows-refl}
 use Rattle.model.proofs.Keeping.{put-keeps, put-origins}

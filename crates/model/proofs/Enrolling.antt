@@ -18,9 +18,9 @@ use Rattle.model.specs.State.{roleAuthority, roleAt, blankRole, exists}
 use Rattle.model.specs.Rules.{userKeeps, roleKeeps, roleBlank, roleTests}
 use Rattle.model.specs.Invariant.{RoleRules}
 use Rattle.model.specs.Setters.{withAppointed, withRoles}
-use Rattle.model.specs.Rulings.{role}
+use Rattle.model.specs.Rulings.{role, Clear}
 use Rattle.model.specs.Administration.{enrolRuling, appointRuling, dismissRuling}
-use Rattle.model.proofs.Settling.{Clear, passed}
+use Rattle.model.proofs.Settling.{passed}
 use Rattle.model.proofs.Authority.{authority-grows}
 use Rattle.model.proofs.Kept.{RolesKept, UsersKept, Kept}
 use Rattle.model.proofs.Places.{role→, role←, role-set}

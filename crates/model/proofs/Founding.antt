@@ -17,9 +17,9 @@ use Rattle.masks.proofs.MaskLaws.{within-zero, has-zero}
 use Rattle.masks.proofs.JoinLaws.{joined-ext}
 use Rattle.model.specs.State.{theRole, partyTerms, termsWith, terms, authority, lentAuthority, roleAuthority, mayLend, roleAt, capabilityAt, blankRole, exists}
 use Rattle.model.specs.Rules.{roleKeeps, roleBlank, roleBlankTests, roleTests}
-use Rattle.model.specs.Rulings.{role}
+use Rattle.model.specs.Rulings.{role, Clear}
 use Rattle.model.specs.Administration.{foundRuling, newRole}
-use Rattle.model.proofs.Settling.{Clear, passed}
+use Rattle.model.proofs.Settling.{passed}
 use Rattle.model.proofs.Authority.{authority-same, lend-same}
 use Rattle.model.proofs.Kept.{Kept}
 use Rattle.model.proofs.Places.{role←, role-set}

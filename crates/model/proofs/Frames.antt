@@ -20,7 +20,8 @@ use Rattle.masks.specs.Masks.{has, within}
 use Rattle.model.specs.State.{capabilityTerms, Terms, terms, claims, roleAt, capabilityAt, originAt, blankCapability, exists, admitted, admittedTests}
 use Rattle.model.specs.Lineage.{children, isParent}
 use Rattle.model.specs.Rules.{earlier}
-use Rattle.masks.proofs.Truth.{Each, each→, each←}
+use Rattle.masks.specs.Tests.{Each}
+use Rattle.masks.proofs.Truth.{each→, each←}
 use Rattle.masks.proofs.Bounded.{countBelow-ext, set-cases, set-each}
 use Rattle.masks.proofs.MaskLaws.{within-refl, within-trans}
 use Rattle.model.specs.Invariant.{Below}

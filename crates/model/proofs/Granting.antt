@@ -13,9 +13,9 @@ use Rattle.model.specs.State.{roleAuthority, roleAt, originAt, blankRole
 use Rattle.model.specs.Rules.{roleKeeps}
 use Rattle.model.specs.Invariant.{RoleRules}
 use Rattle.model.specs.Setters.{withRolePermissions}
-use Rattle.model.specs.Rulings.{role}
+use Rattle.model.specs.Rulings.{role, Clear}
 use Rattle.model.specs.Administration.{grantRuling, withdrawRuling, clockRuling}
-use Rattle.model.proofs.Settling.{Clear, passed}
+use Rattle.model.proofs.Settling.{passed}
 use Rattle.model.proofs.Kept.{Kept}
 use Rattle.model.proofs.Authority.{authority-grows}
 use Rattle.model.proofs.Places.{role→, role←, role-set}

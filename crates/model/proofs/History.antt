@@ -13,7 +13,7 @@ use Rattle.model.specs.declared.Origin.{Origin}
 use Rattle.model.specs.declared.Register.{Register}
 use Rattle.model.specs.State.{originAt}
 use Rattle.model.specs.Rules.{wellFormed}
-use Rattle.model.specs.Rulings.{value, refused, Effect, Guard, _unless_, _when_}
+use Rattle.model.specs.Rulings.{value, refused, Effect, Guard, _unless_, _when_, Clear}
 use Rattle.model.specs.Administration.{enrolRuling, foundRuling, grantRuling, withdrawRuling, appointRuling, dismissRuling, clockRuling}
 use Rattle.model.specs.Delegation.{createRuling, allowRuling, lendRuling, handRuling}
 use Rattle.model.specs.Sessions.{openRuling, checkRuling, closeRuling}
@@ -22,7 +22,7 @@ use Rattle.model.specs.Comparison.{sameRuling}
 use Rattle.model.specs.Calls.{Call, enrol, found, grant, withdraw, appoint, dismiss, clock, create, allow, lend, hand, opening, check, amend, revoke, close, same, ruling, step}
 use Rattle.model.specs.Image.{encode, decode, loads, saveEffect, loadEffect}
 use Rattle.model.specs.Lists.{Event, call, save, load, perform, run, derivedBy, derivedNext, derivedAfter, derivedFrom}
-use Rattle.model.proofs.Settling.{Clear, Settled, accepted, declined, settle-cases}
+use Rattle.model.proofs.Settling.{Settled, accepted, declined, settle-cases}
 use Rattle.model.proofs.Kept.{Kept}
 use Rattle.model.proofs.Granting.{withdraw-origins}
 use Rattle.model.proofs.Creating.{create-origins}

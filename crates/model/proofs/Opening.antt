@@ -15,9 +15,9 @@ use Rattle.model.specs.State.{mayUse, terms, claims, authority, originAt
 use Rattle.model.specs.Rules.{sessionKeeps, sessionTests, sessionBlank}
 use Rattle.model.specs.Invariant.{Below}
 use Rattle.model.specs.Setters.{withUses, withCapabilities, withSessions}
-use Rattle.model.specs.Rulings.{partyOf, capability, termsOf}
+use Rattle.model.specs.Rulings.{partyOf, capability, termsOf, Clear}
 use Rattle.model.specs.Sessions.{openRuling, used, checkRuling, closeRuling, newSession}
-use Rattle.model.proofs.Settling.{Clear, passed}
+use Rattle.model.proofs.Settling.{passed}
 use Rattle.model.proofs.Kept.{OwnKept, Kept}
 use Rattle.model.proofs.Places.{session-set}
 use Rattle.model.proofs.Tree.{there-exists, rooted}

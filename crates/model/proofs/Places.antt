@@ -7,8 +7,8 @@ use native.Mathlib.Omega.{arith}
 use lib.Dec.{T, T-not, eqb, lt→ltb, ltb→lt, eqb→eq}
 use lib.ListN.{getD, set, length-set}
 use Rattle.masks.specs.Masks.{has}
-use Rattle.masks.specs.Tests.{each}
-use Rattle.masks.proofs.Truth.{Each, each→, each←, each-at, cond-i, cond-yes, cond-no, implies-i, implies-e, eq→eqb}
+use Rattle.masks.specs.Tests.{each, Each}
+use Rattle.masks.proofs.Truth.{each→, each←, each-at, cond-i, cond-yes, cond-no, implies-i, implies-e, eq→eqb}
 use Rattle.masks.proofs.Bounded.{set-cases, allBelow-at, allBelow-i}
 use Rattle.model.specs.declared.Origin.{Origin}
 use Rattle.model.specs.declared.Role.{Role}

@@ -4,9 +4,9 @@ use Prim.Native.Nat.{ℕ, _≤_, _<_}
 use lib.Dec.{ltb→lt, leb→le}
 use Rattle.model.specs.declared.Register.{Register}
 use Rattle.model.specs.State.{originAt, exists}
-use Rattle.model.specs.Rulings.{capability, termsOf}
+use Rattle.model.specs.Rulings.{capability, termsOf, Clear}
 use Rattle.model.specs.Revocation.{amendRuling, Change, changed, revokeRuling}
-use Rattle.model.proofs.Settling.{Clear, passed}
+use Rattle.model.proofs.Settling.{passed}
 use Rattle.model.proofs.Kept.{Kept}
 use Rattle.model.proofs.Revoking.{revoke-capabilities, revoke-frames}
 use Rattle.model.proofs.Amending.{amend-capabilities, amend-frames}

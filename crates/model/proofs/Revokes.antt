@@ -18,12 +18,12 @@ use Rattle.model.specs.declared.Register.{Register}
 use Rattle.model.specs.State.{theCapability, capabilityTerms, terms, authority, sessionAt, inLife, exists}
 use Rattle.model.specs.Lineage.{Descends, here, inLineage}
 use Rattle.model.specs.Setters.{withRevoked, withCapabilities}
-use Rattle.model.specs.Rulings.{value, refused, Effect, Guard, capability}
+use Rattle.model.specs.Rulings.{value, refused, Effect, Guard, capability, Clear, verdict}
 use Rattle.model.specs.Sessions.{permitting, permits, checkRuling}
 use Rattle.model.specs.Revocation.{marked, revokeRuling}
 use Rattle.model.specs.Calls.{check, revoke, ruling, step}
 use Rattle.model.specs.Theorem.{asked, next, Yes, Due, CountOf, none, counted, skipped, OnDue, ChangesCheck, Revokes}
-use Rattle.model.proofs.Settling.{Clear, passed, Settled, accepted, declined, verdict, verdict-cases, step-answer}
+use Rattle.model.proofs.Settling.{passed, Settled, accepted, declined, verdict-cases, step-answer}
 use Rattle.model.proofs.Kept.{Kept}
 use Rattle.model.proofs.Rules.{kept←}
 use Rattle.model.proofs.Tree.{inLineage→, inLineage←, descends-derived}

@@ -5,8 +5,8 @@ use mathlib.Core.List.{List, [], _∷_}
 use Prim.Native.Nat.{ℕ}
 use lib.Dec.{T, ltb, leb→le, le→leb, ltb→lt, lt→ltb, eqb→eq}
 use Rattle.masks.specs.Masks.{has}
-use Rattle.masks.specs.Tests.{each}
-use Rattle.masks.proofs.Truth.{Each, each→, each←, each-at, implies-i, implies-e, T→false, eq→eqb}
+use Rattle.masks.specs.Tests.{each, Each}
+use Rattle.masks.proofs.Truth.{each→, each←, each-at, implies-i, implies-e, T→false, eq→eqb}
 use Rattle.masks.proofs.Bounded.{allBelow-at, allBelow-i}
 use Rattle.model.specs.declared.Origin.{Origin}
 use Rattle.model.specs.declared.Origin.the-variants.{Role as ofRole, Capability as ofCapability}

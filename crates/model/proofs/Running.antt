@@ -9,12 +9,12 @@ use Rattle.masks.specs.Bytes.{sameBytes}
 use Rattle.masks.proofs.Truth.{and-l}
 use Rattle.model.specs.declared.Register.{Register}
 use Rattle.model.specs.Rules.{wellFormed}
-use Rattle.model.specs.Rulings.{Effect, Guard, _unless_, _when_, settle}
+use Rattle.model.specs.Rulings.{Effect, Guard, _unless_, _when_, settle, Clear}
 use Rattle.model.specs.Comparison.{sameRuling}
 use Rattle.model.specs.Calls.{Call, enrol, found, grant, withdraw, appoint, dismiss, clock, create, allow, lend, hand, opening, check, amend, revoke, close, same, ruling, settled, step}
 use Rattle.model.specs.Image.{encode, decode, loads, saveEffect, loadEffect}
 use Rattle.model.specs.Lists.{Event, call, save, load, perform, run}
-use Rattle.model.proofs.Settling.{Clear, Settled, accepted, declined, settle-cases, step-settled}
+use Rattle.model.proofs.Settling.{Settled, accepted, declined, settle-cases, step-settled}
 use Rattle.model.proofs.Kept.{Kept}
 use Rattle.model.proofs.Rules.{kept→, kept←}
 use Rattle.model.proofs.Enrolling.{enrol-keeps, appoint-keeps, dismiss-keeps}

@@ -7,20 +7,11 @@ use Prim.Native.Nat.{ℕ}
 use lib.Dec.{T, T-not, not-T, eqb}
 use native.Mathlib.Omega.{arith}
 use Rattle.model.specs.declared.Register.{Register}
-use Rattle.masks.specs.Tests.{each}
+use Rattle.masks.specs.Tests.{each, Each}
 use Rattle.model.specs.Rules.{wellFormed}
-use Rattle.model.specs.Rulings.{Outcome, value, refused, Effect, Guard, _unless_, _when_, applies, number, settle}
+use Rattle.model.specs.Rulings.{Outcome, value, refused, Effect, Guard, _unless_, _when_, applies, number, Fact, Clear, settle, verdict}
 use Rattle.model.specs.Calls.{Call, ruling, settled, step}
-use Rattle.masks.proofs.Truth.{T→true, T→false, not-not, Each, each→, each←}
-
--- what an accepted call knows: of each refusal that it did not apply
-abbrev pub Fact : Guard → Type 0
-Fact (n unless ts) = Each ts
-Fact (n when t) = T (not t)
-
-abbrev pub Clear : List Guard → Type 0
-Clear [] = Unit {0}
-Clear (q ∷ rest) = Fact q × Clear rest
+use Rattle.masks.proofs.Truth.{T→true, T→false, not-not, each→, each←}
 
 -- the fact of the refusal with the number k: `passed 11 (… .refusals) h`
 abbrev pub Passed : ℕ → List Guard → Type 0
@@ -55,11 +46,7 @@ settle-cases r (q ∷ rest) v s = cases (applies q) (fact q) (settle-cases r res
     cases false f (accepted h e) = accepted (f tt, h) e
     cases false f (declined m e) = declined m e
 
--- ---- the answer alone: it does not look at the registers
-
-abbrev pub verdict : List Guard → ℕ → Outcome
-verdict [] v = value v
-verdict (q ∷ rest) v = elim (applies q) [ true ↦ refused (number q) | false ↦ verdict rest v ]
+-- ---- the answer alone
 
 pub settle-answer : {A : Type 0} (r : A) (rs : List Guard) (v : ℕ) (s : A) → (settle r rs v s) .answer ≡ verdict rs v
 unfolding settle

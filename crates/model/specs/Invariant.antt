@@ -1,5 +1,5 @@
--- Document 01, "Shelf rules", by propositions. `proofs/Rules.antt` proves that a register has them exactly where the test
--- `wellFormed` passes.
+-- Intermediate: `proofs/Rules.antt` proves that a register has these exactly where the test `wellFormed` of `Rules.antt` passes.
+-- Document 01, "Shelf rules", by propositions.
 use mathlib.Core.Path.{_≡_}
 use mathlib.Core.List.{List}
 use Prim.Native.Nat.{ℕ, _^_, _≤_, _<_}

@@ -2,7 +2,8 @@
 use mathlib.Core.Bool.{Bool, true, false, not}
 use mathlib.Core.List.{List, [], _∷_}
 use Prim.Native.Nat.{ℕ}
-use Rattle.masks.specs.Tests.{each}
+use lib.Dec.{T}
+use Rattle.masks.specs.Tests.{each, Each}
 use Rattle.model.specs.declared.Origin.{Origin}
 use Rattle.model.specs.declared.Role.{Role}
 use Rattle.model.specs.declared.Capability.{Capability}
@@ -33,6 +34,15 @@ abbrev pub number : Guard → ℕ
 number (n unless ts) = n
 number (n when t) = n
 
+-- what is known where a guard does not apply, and where none of a list does
+abbrev pub Fact : Guard → Type 0
+Fact (n unless ts) = Each ts
+Fact (n when t) = T (not t)
+
+abbrev pub Clear : List Guard → Type 0
+Clear [] = Unit {0}
+Clear (q ∷ rest) = Fact q × Clear rest
+
 -- a call's refusals in their order, its value, and the register, or the elements, after it
 pub record Ruling (A : Type 0) : Type 0 where
   pub guards : List Guard
@@ -51,6 +61,11 @@ settle r (q ∷ rest) v s =
       | true ↦ record { answer = refused (number q); after = r }
       | false ↦ settle r rest v s
     ]
+
+-- the answer alone: it does not look at the registers
+abbrev pub verdict : List Guard → ℕ → Outcome
+verdict [] v = value v
+verdict (q ∷ rest) v = elim (applies q) [ true ↦ refused (number q) | false ↦ verdict rest v ]
 
 abbrev pub ruled : {A : Type 0} → A → Ruling A → Effect A
 ruled r q = settle r (q .guards) (q .result) (q .after)

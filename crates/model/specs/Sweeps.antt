@@ -1,4 +1,5 @@
--- Revoke and amend as one rising sweep each, which is how the program does them; `proofs/` shows that they come to the same.
+-- Intermediate: `proofs/Revoking.antt` and `Amending.antt` prove that these sweeps come to revoke and amend of `Revocation.antt`.
+-- Revoke and amend as one rising sweep each, which is how the program does them.
 use mathlib.Core.Bool.{Bool, cond, _||_}
 use mathlib.Core.List.{List, []}
 use Prim.Native.Nat.{ℕ, min}

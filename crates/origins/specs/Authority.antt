@@ -1,3 +1,4 @@
+-- Intermediate: the code's own terms, proved to come to the definitions of `model`.
 -- What origins grant and may lend, by the columns of the roles.
 use mathlib.Core.Path.{_≡_}
 use mathlib.Core.Bool.{cond}

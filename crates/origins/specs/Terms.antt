@@ -1,3 +1,4 @@
+-- Intermediate: the code's own terms, proved to come to the definitions of `model`.
 -- What stands at an origin and what it allows, from the elements read.
 use mathlib.Core.List.{List}
 use Prim.Native.Nat.{ℕ, _%_}

@@ -1,3 +1,4 @@
+-- Intermediate: the code's own terms, proved to come to the definitions of `model`.
 -- What is to be done for a line of a journal.
 use mathlib.Core.Path.{_≡_}
 use mathlib.Core.Bool.{Bool, true}

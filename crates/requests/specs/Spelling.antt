@@ -1,3 +1,4 @@
+-- Intermediate: the code's own terms, proved to come to the definitions of `model`.
 -- The request words by the shape of their arguments, and how each is spelt.
 use mathlib.Core.List.{List}
 use mathlib.Core.Option.{Option}

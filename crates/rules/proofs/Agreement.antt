@@ -8,8 +8,8 @@ use borrow.Author.Tests.{lt-ltb, le-ltb, eq-eqb}
 use lib.Dec.{T, eqb, leb, ltb, ltb→lt, leb→le}
 use lib.ListN.{getD, length}
 use Rattle.masks.specs.Masks.{has, within}
-use Rattle.masks.specs.Tests.{each, allBelow, allFrom}
-use Rattle.masks.proofs.Truth.{Each, each-at, fromLeft, left-each}
+use Rattle.masks.specs.Tests.{each, allBelow, allFrom, Each}
+use Rattle.masks.proofs.Truth.{each-at, fromLeft, left-each}
 use Rattle.model.specs.declared.Origin.{Origin}
 use Rattle.model.specs.declared.Origin.the-variants.{Role as ofRole, Capability as ofCapability}
 use Rattle.model.specs.declared.Role.{Role}

@@ -13,8 +13,8 @@ use lib.Dec.{T, not-T, eqb, ltb, eqb→eq, lt→ltb}
 use lib.ListN.{length, getD, set}
 use lib.Seq.{getD-set-same, getD-set-other}
 use Rattle.masks.specs.Masks.{has, within}
-use Rattle.masks.specs.Tests.{each, implies, allBelow, allFrom}
-use Rattle.masks.proofs.Truth.{Each, true→T, T→false, and-r, and-i, implies-i, implies-e, decided, same-test}
+use Rattle.masks.specs.Tests.{each, implies, allBelow, allFrom, Each}
+use Rattle.masks.proofs.Truth.{true→T, T→false, and-r, and-i, implies-i, implies-e, decided, same-test}
 use Rattle.masks.proofs.Bounded.{allBelow-at, allBelow-i, all-at, all-i}
 use Rattle.masks.proofs.MaskLaws.{has-zero, has-or, has-single, has-lt, within-has, has-within}
 use Rattle.rules.specs.Columns.{masked}

@@ -1,3 +1,4 @@
+-- Intermediate: the code's own terms, proved to come to the definitions of `model`.
 -- Masks and tables that the sweep makes once.
 use mathlib.Core.Bool.{Bool, cond}
 use mathlib.Core.List.{List}

@@ -1,3 +1,4 @@
+-- Intermediate: the code's own terms, proved to come to the definitions of `model`.
 -- The calls on sessions over the elements that they name: the model's rulings, on the elements that are read.
 use mathlib.Core.Bool.{Bool}
 use mathlib.Core.List.{List}
@@ -9,10 +10,9 @@ use Rattle.model.specs.declared.Context.{Context}
 use Rattle.model.specs.declared.Role.{Role}
 use Rattle.model.specs.declared.Capability.{Capability}
 use Rattle.model.specs.declared.Session.{Session}
-use Rattle.model.specs.Rulings.{Effect, Outcome, Ruling, into, ruled}
+use Rattle.model.specs.Rulings.{Effect, Outcome, Ruling, into, ruled, verdict}
 use Rattle.model.specs.Requests.{namedOrigin}
 use Rattle.model.specs.Sessions.{openingSession, permitting, checking, closing}
-use Rattle.model.proofs.Settling.{verdict}
 use Rattle.slots.specs.declared.Slots.{Slots}
 use Rattle.slots.specs.Slots.{withSessionSlots}
 use Rattle.origins.specs.Authority.{grantedBy}

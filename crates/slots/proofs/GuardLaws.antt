@@ -9,9 +9,9 @@ use Rattle.masks.specs.Tests.{each}
 use Rattle.masks.proofs.Truth.{T→true, and-l, and-r, fromLeft, left-each}
 use Rattle.model.specs.declared.Refusal.{Refusal}
 use Rattle.model.specs.declared.Refusal.the-variants.{Malformed, Range, Missing, Unchanged, Domain, Forbidden, Revoked, Expired, Context, Exhausted, Exceeds, Full, Past, Image, Broken, Room}
-use Rattle.model.specs.Rulings.{Outcome, value, refused, Guard, _unless_, applies, number, settle}
+use Rattle.model.specs.Rulings.{Outcome, value, refused, Guard, _unless_, applies, number, settle, Fact, Clear, verdict}
 use Rattle.model.specs.Requests.{refusalNumber}
-use Rattle.model.proofs.Settling.{Fact, fact, Clear, verdict, clear-verdict, clear-settle, answer-refused}
+use Rattle.model.proofs.Settling.{fact, clear-verdict, clear-settle, answer-refused}
 use Rattle.slots.specs.declared.guards.Guarded.{Guarded}
 use Rattle.slots.specs.declared.guards.Guarded.the-variants.{Pass, Refuse}
 use Rattle.slots.specs.Guards.{guarded, firstNumber, numbered, raisedOf}

@@ -14,10 +14,10 @@ use Rattle.model.specs.declared.Session.{Session}
 use Rattle.model.specs.declared.Register.{Register}
 use Rattle.model.specs.Setters.{withClock, withUsers, withRoles, withCapabilities, withCount, withSessions}
 use Rattle.model.specs.Rules.{isRole, isCapability}
-use Rattle.model.specs.Rulings.{Guard, _unless_, Ruling, into, settle, ruled, role, capability}
+use Rattle.model.specs.Rulings.{Guard, _unless_, Ruling, into, settle, ruled, role, capability, Clear}
 use Rattle.model.specs.Administration.{puttingRole}
 use Rattle.model.specs.Delegation.{putting}
-use Rattle.model.proofs.Settling.{Clear, settle-past, settle-after, settle-into}
+use Rattle.model.proofs.Settling.{settle-past, settle-after, settle-into}
 use Rattle.slots.specs.declared.Slots.{Slots}
 use Rattle.slots.specs.Slots.{Places, look, put, lifted, withClockSlot, withUserSlot, withRoleSlot, withCapabilitySlot, withCreatedSlots, withSessionSlots, onRole, onCapability}
 use Rattle.origins.proofs.Laws.{in-range}

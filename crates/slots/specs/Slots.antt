@@ -1,3 +1,4 @@
+-- Intermediate: the code's own terms, proved to come to the definitions of `model`.
 -- The elements at some places of a register, read and put back.
 use Prim.Native.Nat.{ℕ}
 use lib.ListN.{getD, set}

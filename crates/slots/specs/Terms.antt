@@ -1,3 +1,4 @@
+-- Intermediate: the code's own terms, proved to come to the definitions of `model`.
 -- What an origin allows, from the elements read, and counts that rise.
 use mathlib.Core.List.{List}
 use Prim.Native.Nat.{ℕ}

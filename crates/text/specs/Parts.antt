@@ -1,3 +1,4 @@
+-- Intermediate: the code's own terms, proved to come to the definitions of `model`.
 -- A list of bytes by the part before its first separator and what follows that part.
 use mathlib.Core.Bool.{cond}
 use mathlib.Core.List.{List, [], _∷_}

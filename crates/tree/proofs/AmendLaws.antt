@@ -16,14 +16,14 @@ use Rattle.model.specs.State.{blankCapability, capabilityAt, originAt, terms}
 use Rattle.model.specs.Setters.{withCapabilities}
 use Rattle.model.specs.Sweeps.{originLimit, limitOne}
 use Rattle.model.specs.Rules.{wellFormed, isUser, isCapability}
-use Rattle.model.specs.Rulings.{refused, Guard, _unless_, settle}
+use Rattle.model.specs.Rulings.{refused, Guard, _unless_, settle, Clear}
 use Rattle.model.specs.Revocation.{Change, raise, lower, isZero, isChange, fallsBelow, changed, amendGuards, amendRuling}
 use Rattle.model.specs.Calls.{amend, ruling, settled}
 use Rattle.model.specs.Requests.{refusalNumber}
 use Rattle.model.proofs.Rules.{kept→, formed→}
 use Rattle.model.proofs.Tree.{falls}
 use Rattle.model.proofs.Amending.{sweep-limits}
-use Rattle.model.proofs.Settling.{Clear, passed, settle-past, settle-after}
+use Rattle.model.proofs.Settling.{passed, settle-past, settle-after}
 use Rattle.slots.specs.declared.guards.Guarded.{Guarded}
 use Rattle.slots.specs.declared.guards.Guarded.the-variants.{Pass, Refuse}
 use Rattle.slots.specs.Guards.{guarded, firstNumber}

@@ -1,13 +1,13 @@
+-- Intermediate: the code's own terms, proved to come to the definitions of `model`.
 -- What same answers over the elements that it names, and amend's refusals by what the change asks for.
 use mathlib.Core.Bool.{_&&_}
 use mathlib.Core.List.{List}
 use Prim.Native.Nat.{ℕ}
 use lib.Dec.{eqb}
 use Rattle.model.specs.declared.Capability.{Capability}
-use Rattle.model.specs.Rulings.{Outcome, Guard}
+use Rattle.model.specs.Rulings.{Outcome, Guard, verdict}
 use Rattle.model.specs.Revocation.{amendGuards}
 use Rattle.model.specs.Comparison.{sameGuards}
-use Rattle.model.proofs.Settling.{verdict}
 use Rattle.sweeps.specs.Sweeping.{oneIf}
 use Rattle.tree.specs.declared.amending.Amendment.{Amendment}
 

@@ -1,3 +1,4 @@
+-- Intermediate: the code's own terms, proved to come to the definitions of `model`.
 -- What a call over the whole tree comes to, and what amend asks for.
 use mathlib.Core.Bool.{false}
 use Prim.Native.Nat.{ℕ, _+_, _-_, _%_}
