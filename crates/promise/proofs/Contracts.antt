@@ -13,6 +13,7 @@ use Rattle.batch.proofs as batch-proofs
 use Rattle.image.proofs as image-proofs
 use Rattle.player.proofs as player-proofs
 use Rattle.fellunqa.proofs as fellunqa-proofs
+use Rattle.terminal.proofs as terminal-proofs
 use Rattle.promise.specs.Contracts.{Contracts}
 
 pub contracts : {M : Type 1} (𝓤 : URA M) (H : Heap 𝓤) (A : Atoms 𝓤) (mem : Memory → SProp 𝓤) (runs : Routine → Fun 𝓤) → Contracts 𝓤 H A mem runs
@@ -63,4 +64,7 @@ contracts 𝓤 H A mem runs =
       save = image-proofs.save.Met.met;
       save-says = λ κs r buffer. refl;
       load = image-proofs.load.Met.met;
+      load-says = λ κs r s. refl;
+      play = terminal-proofs.play.Met.met;
+      play-says = λ κs input out. refl;
     }

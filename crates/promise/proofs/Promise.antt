@@ -3,6 +3,10 @@ use Rattle.model.proofs.ListTheorem.{list-theorem}
 use Rattle.model.proofs.Runs.{journal-runs, batches-run, entry-returns}
 use Rattle.model.proofs.Edges.{fresh-formed, edges}
 use Rattle.model.proofs.Listing.{listing-played}
+use Rattle.model.proofs.Cases.{call-cases}
+use Rattle.model.proofs.OrderCases.{order-cases}
+use Rattle.model.proofs.JournalCases.{journal-cases}
+use Rattle.model.proofs.ImageCases.{image-cases, entry-cases}
 use Rattle.image.proofs.RoundTrip.{image-laws}
 use Rattle.promise.specs.Promise.{Promise}
 use Rattle.promise.proofs.Chain.{entry-runs}
@@ -20,5 +24,10 @@ promise =
       image-laws = image-laws;
       edges = edges;
       listing = listing-played;
+      call-cases = call-cases;
+      order-cases = order-cases;
+      journal-cases = journal-cases;
+      image-cases = image-cases;
+      entry-cases = entry-cases;
       contracts = contracts;
     }

@@ -10,6 +10,10 @@ use Rattle.model.specs.Theorem.{ListTheorem, FreshStart}
 use Rattle.model.specs.Runs.{JournalRuns, BatchesRun, EntryReturns, EntryRuns}
 use Rattle.model.specs.Edges.{Edges}
 use Rattle.model.specs.Listing.{Listing}
+use Rattle.model.specs.Cases.{CallCases}
+use Rattle.model.specs.OrderCases.{OrderCases}
+use Rattle.model.specs.JournalCases.{JournalCases}
+use Rattle.model.specs.ImageCases.{ImageCases, EntryCases}
 use Rattle.image.specs.Laws.{ImageLaws}
 use Rattle.promise.specs.Contracts.{Contracts}
 
@@ -28,5 +32,11 @@ pub record Promise : Type 2 where
   -- the worked cases E1 to E8 and the four mistakes (`model`, Edges.antt), and the listing (`model`, Listing.antt)
   pub edges : Edges
   pub listing : Listing
+  -- worked cases of what no theorem speaks of (`model`): calls, orders of refusals, lines, one image byte by byte, the entry point
+  pub call-cases : CallCases
+  pub order-cases : OrderCases
+  pub journal-cases : JournalCases
+  pub image-cases : ImageCases
+  pub entry-cases : EntryCases
   -- the public functions do what the definitions say (Contracts.antt)
   pub contracts : {M : Type 1} (𝓤 : URA M) (H : Heap 𝓤) (A : Atoms 𝓤) (mem : Memory → SProp 𝓤) (runs : Routine → Fun 𝓤) → Contracts 𝓤 H A mem runs
