@@ -1,6 +1,6 @@
 -- `fields::number::byte_at` meets its contract.
 -- Assumes nothing.
-use mathlib.Core.Path.{refl, sym}
+use mathlib.Core.Path.{sym}
 use native.Mathlib.Omega.{arith}
 use lib.ListN.{List·getD-eq-default}
 use borrow.Author.Needs.{needs}
@@ -13,10 +13,4 @@ returns-2 c =
     (sym (List·getD-eq-default (start .args .s .now) 0 (search)), omega arith)
 
 pub byte-at-spec : {M : Type 1} → statement M
-byte-at-spec =
-    tie.close
-    (tie.spec
-    (λ c. search needs)
-    (λ c. omega (arith, c .shared-slice-known .given (search)))
-    (λ c. (refl, c .shared-slice-known .given (search) .fits))
-    returns-2)
+byte-at-spec = tie.close (tie.spec (λ c κs. search needs) (λ c. search needs) returns-2)

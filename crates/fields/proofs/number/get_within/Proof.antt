@@ -1,4 +1,4 @@
--- `fields::number::get_at` meets its contract.
+-- `fields::number::get_within` meets its contract.
 -- Assumes nothing.
 use mathlib.Core.Path.{_≡_, sym, _∙_}
 use Prim.Native.Nat.{_+_, _-_, _≤_, _<_, _^_}
@@ -7,8 +7,8 @@ use lib.ListN.{drop}
 use borrow.Author.Needs.{needs}
 use Rattle.masks.specs.Bytes.{numberFrom, numberOf, firstBytes}
 use Rattle.fields.proofs.Parts.{byte-step, byte-fits, first-start, first-turn, first-done}
-use Rattle.fields.proofs.number.get_at.Statement.{statement}
-use Rattle.fields.proofs.number.get_at.Tie as tie
+use Rattle.fields.proofs.number.get_within.Statement.{statement}
+use Rattle.fields.proofs.number.get_within.Tie as tie
 
 abbrev Inv-loop : tie.InvT-loop
 Inv-loop s at k x₀ i₀ x i = (i ≤ k) × (x < 256 ^ i) × (numberFrom x (firstBytes (k - i) (drop (at + i) s)) ≡ numberOf (firstBytes k (drop at s)))
@@ -40,7 +40,7 @@ loop-again c =
     let a = start .args in (
       omega arith,
       byte-step (l .i) (l .x) _ (l .inv .1) (search),
-      rw (c .byte-at .ensures .0) (sym (first-turn (a .s .now) (a .at) (a .k) (l .i) (l .x) (search)) ∙ l .inv .2),
+      rw (c .byte-in .ensures .0) (sym (first-turn (a .s .now) (a .at) (a .k) (l .i) (l .x) (search)) ∙ l .inv .2),
     )
 
 returns : tie.Need-returns Inv-loop μ-loop
@@ -50,8 +50,8 @@ returns c =
     let a = start .args in
     first-done (a .s .now) (a .at) (a .k) (at-loop .loop .i) (at-loop .loop .x) (search) ∙ at-loop .loop .inv .2
 
-pub get-at-spec : {M : Type 1} → statement M
-get-at-spec =
+pub get-within-spec : {M : Type 1} → statement M
+get-within-spec =
     tie.close
     (tie.spec
     Inv-loop μ-loop
