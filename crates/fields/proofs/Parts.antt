@@ -39,7 +39,7 @@ first-step k zero (b ∷ s) = refl
 first-step k (suc p) [] = rw add-one refl
 first-step k (suc p) (b ∷ s) = first-step k p s ∙ rw (add-one, add-one)
 
-pub first-turn : (s : List ℕ) (at k i x : ℕ) → i < k
+first-turn : (s : List ℕ) (at k i x : ℕ) → i < k
     → numberFrom x (firstBytes (k - i) (drop (at + i) s)) ≡ numberFrom (x * 256 + getD s (at + i) 0) (firstBytes (k - (i + 1)) (drop (at + (i + 1)) s))
 first-turn s at k i x h =
     let e : k - i ≡ suc (k - (i + 1)) = omega arith in
@@ -48,11 +48,31 @@ first-turn s at k i x h =
     ∙ ap (numberFrom x) (first-step (k - (i + 1)) (at + i) s)
     ∙ ap (λ (j : ℕ). numberFrom (x * 256 + getD s (at + i) 0) (firstBytes (k - (i + 1)) (drop j s))) a
 
-pub first-start : (s : List ℕ) (at k : ℕ) → numberFrom 0 (firstBytes (k - 0) (drop (at + 0) s)) ≡ numberOf (firstBytes k (drop at s))
-first-start s at k = rw (sub-zero, add-zero)
+-- x is the number in the first i of the k bytes from `at` on, and what is left gives the whole
+pub record NumberTo (s : List ℕ) (at k x i : ℕ) : Type 0 where
+  pub few : i ≤ k
+  pub small : x < 256 ^ i
+  pub left : numberFrom x (firstBytes (k - i) (drop (at + i) s)) ≡ numberOf (firstBytes k (drop at s))
 
-pub first-done : (s : List ℕ) (at k i x : ℕ) → k ≤ i → x ≡ numberFrom x (firstBytes (k - i) (drop (at + i) s))
-first-done s at k i x h = let e : k - i ≡ 0 = omega arith in rw e
+pub number-none : (s : List ℕ) (at k : ℕ) → NumberTo s at k 0 0
+number-none s at k = record { few = omega arith; small = omega arith; left = rw (sub-zero, add-zero) }
+
+pub number-fits : (s : List ℕ) (at k x i b : ℕ) → NumberTo s at k x i → i < k → k ≤ 8 → b < 256 → x * 256 + b < 2 ^ 64
+number-fits s at k x i b h l w f = byte-fits i x b (omega arith) (h .small) f
+
+pub number-shifts : (s : List ℕ) (at k x i : ℕ) → NumberTo s at k x i → i < k → k ≤ 8 → x * 256 < 2 ^ 64
+number-shifts s at k x i h l w = omega (arith, number-fits s at k x i 0 h l w (lit< tt))
+
+pub number-more : (s : List ℕ) (at k x i b : ℕ) → NumberTo s at k x i → i < k → b ≡ getD s (at + i) 0 → b < 256 → NumberTo s at k (x * 256 + b) (i + 1)
+number-more s at k x i b h l e f =
+    record {
+      few = omega arith;
+      small = byte-step i x b (h .small) f;
+      left = rw e (sym (first-turn s at k i x l) ∙ h .left);
+    }
+
+pub number-all : (s : List ℕ) (at k x i : ℕ) → NumberTo s at k x i → k ≤ i → x ≡ numberOf (firstBytes k (drop at s))
+number-all s at k x i h l = let e : k - i ≡ 0 = omega arith in rw e at (h .left)
 
 -- ---- an array that is filled from its front
 
