@@ -4,9 +4,9 @@ use mathlib.Core.List.{List}
 use Prim.Native.Nat.{ℕ, _%_, _^_, _<_}
 use native.Mathlib.Nat.{mod-eq-of-lt}
 use borrow.Author.Tests.{lt-ltb}
-use lib.Bits.{bitOr}
+use lib.Bits.{bitOr, or-zero-r}
 use lib.Dec.{T, ltb, ltb→lt}
-use Rattle.masks.proofs.JoinLaws.{joined-same}
+use Rattle.masks.proofs.JoinLaws.{joined-same, joined-none}
 use Rattle.model.proofs.Authority.{lend-one}
 use Rattle.model.specs.declared.Origin.{Origin}
 use Rattle.model.specs.declared.Origin.the-variants.{Role as ofRole, Capability as ofCapability}
@@ -38,6 +38,11 @@ held-placed (ofRole k) i j e f l = ap (λ (n : ℕ). n % 32) e
 held-placed (ofCapability n) i j e f l = f ∙ sym (mod-eq-of-lt (subst (λ (m : ℕ). m < 256) f l))
 
 -- ---- the columns
+
+-- the authority of a capability without lent roles
+pub authority-own : (columns : List ℕ) (c : Capability) → c .lent ≡ 0 → c .permissions ≡ authorityIn columns c
+unfolding authorityIn joinedItems
+authority-own columns c e = rw (e, joined-none, or-zero-r)
 
 module _ (columns : List ℕ) (roles : List Role) (kept : Columns columns roles) where
   pub role-granted : (k : ℕ) → k < 32 → roleItem columns 0 k ≡ roleAuthority roles k

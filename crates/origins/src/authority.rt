@@ -35,11 +35,15 @@ fn role_item(columns: &[u32; 64], from: usize, k: u8) -> u32
     }
 }
 
-// The authority of a capability: its own permissions and those of its lent roles.
+// The authority of a capability: its own permissions and those of its lent roles, of which most have none.
 pub fn authority_in(columns: &[u32; 64], c: Capability) -> u32
     ensures { λ q. ⌜ q ≡ authorityIn (now (columns .entry)) c ⌝ }
 {
-    c.permissions | join(columns, 0, c.lent)
+    if c.lent == 0 {
+        c.permissions
+    } else {
+        c.permissions | join(columns, 0, c.lent)
+    }
 }
 
 // The authority of the origin o, which is the capability c where it is one.
