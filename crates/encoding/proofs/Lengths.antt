@@ -13,13 +13,15 @@ use lib.Seq.{drop-cons, length-take-le}
 use Rattle.masks.specs.Bytes.{bytesOf}
 use Rattle.masks.proofs.MaskLaws.{ones-zero}
 use Rattle.model.specs.declared.Register.{Register}
+use Rattle.model.specs.declared.Role.{Role}
+use Rattle.model.specs.declared.Session.{Session}
 use Rattle.model.specs.State.{blankCapability}
 use Rattle.model.specs.Invariant.{WellFormed}
 use Rattle.model.specs.Fields.{bit, writeRole, writeSession, writeCapability}
 use Rattle.model.specs.Image.{maskWhere, chosen, writeChosen, writeCapabilities, chosenLength, foundedRoles, activeSessions, encode}
 use Rattle.fields.proofs.Numbers.{length-bytes, length-map}
 use Rattle.records.proofs.Records.{role-size, session-size, capabilities-small, capabilities-step, capabilities-done}
-use Rattle.encoding.proofs.Turns.{bit-le}
+use Rattle.encoding.proofs.Turns.{bit-le, where-small}
 use Rattle.encoding.proofs.Whole.{mapped-size, counted-size, sections-size}
 
 -- ---- items of w bytes each
@@ -83,10 +85,7 @@ module _ (r : Register) where
       ec
       (es ∙ ap (chosenLength 6 (activeSessions (r .sessions))) (sym ls) ∙ chosen-length writeSession 6 session-size (activeSessions (r .sessions)) (r .sessions))
 
--- ---- a loop over the items that pass a test
-
-pub bit-small : (b : Bool) (n : ℕ) → n ≡ bit b → n < 2
-bit-small b n e = omega (arith, bit-le b)
+-- ---- the mask of the items that pass a test
 
 pub bit-here : (b : Bool) (m : ℕ) → (bit b + 2 * m) % 2 ≡ bit b
 bit-here b m = omega (arith, bit-le b)
@@ -94,40 +93,9 @@ bit-here b m = omega (arith, bit-le b)
 pub bits-after : (b : Bool) (m : ℕ) → (bit b + 2 * m) / 2 ≡ m
 bits-after b m = omega (arith, bit-le b)
 
-module _ {A : Type 0} (write : A → List ℕ) (test : A → Bool) where
-  -- the bytes of those in a list
-  abbrev pub passing : List A → ℕ
-  passing l = length (writeChosen write (maskWhere test l) l)
-
-  -- those before item i, of k, have n bytes
-  pub record PassedTo (k : ℕ) (l : List A) (n i : ℕ) : Type 0 where
-    pub amount : length l ≡ k
-    pub below : i ≤ k
-    pub rest : n + passing (drop i l) ≡ passing l
-
-  pub passed-start : {k : ℕ} {l : List A} → length l ≡ k → PassedTo k l 0 0
-  passed-start {k} {l} e = record { amount = e; below = omega arith; rest = zero-add (passing l) }
-
-  module _ (w : ℕ) (sizes : (a : A) → length (write a) ≡ w) where
-    passing-cons : (a : A) (l : List A) → passing (a ∷ l) ≡ bit (test a) * w + passing l
-    passing-cons a l =
-        let b : bit (test a) < 2 = omega (arith, bit-le (test a)) in
-        rw (bit-here (test a) (maskWhere test l), bits-after (test a) (maskWhere test l), length-append, item-length write w sizes (bit (test a)) a b)
-
-    module _ {k : ℕ} {l : List A} {n i : ℕ} (f : PassedTo k l n i) where
-      pub passed-step : (d : A) → i < k → {m : ℕ} → m ≡ bit (test (getD l i d)) * w → PassedTo k l (n + m) (i + 1)
-      passed-step d h e =
-          let split : passing (drop i l) ≡ bit (test (getD l i d)) * w + passing (drop (i + 1) l) = rw (add-one, drop-cons l i d (omega (arith, f .amount))) (passing-cons (getD l i d) (drop (suc i) l)) in
-          record { amount = f .amount; below = omega arith; rest = omega (arith, split, f .rest, e) }
-
-      -- no more than w for each
-      pub passed-small : n ≤ w * k
-      passed-small = rw (← f .amount) (omega (arith, f .rest, chosen-small write w sizes (maskWhere test l) l))
-
-      pub passed-done : k ≤ i → n ≡ passing l
-      passed-done h =
-          let e : drop i l ≡ [] = drop-of-length-le l {i = i} (omega (arith, f .amount)) in
-          omega (arith, rw e at (f .rest))
+where-counted : {A : Type 0} (write : A → List ℕ) (w : ℕ) → ((a : A) → length (write a) ≡ w) → (test : A → Bool) (k : ℕ) (l : List A) → length l ≡ k
+    → {n : ℕ} → n ≡ ones (maskWhere test l) → n * w ≡ length (writeChosen write (maskWhere test l) l)
+where-counted write w sizes test k l ek en = chosen-counted write w sizes k l ek (rw (← ek) (where-small test l)) en
 
 -- ---- the loop over the capabilities of a register that keeps the rules
 
@@ -151,11 +119,14 @@ pub record LengthTo (r : Register) (n i : ℕ) : Type 0 where
   pub below : i ≤ r .count
   pub rest : n + length (writeCapabilities (drop i (take (r .count) (r .capabilities)))) ≡ length (encode r)
 
-pub length-start : {r : Register} → WellFormed r → {u f s : ℕ} → u ≡ ones (r .enrolled) → f ≡ length (writeChosen writeRole (foundedRoles (r .roles)) (r .roles))
-    → s ≡ length (writeChosen writeSession (activeSessions (r .sessions)) (r .sessions)) → LengthTo r (26 + u + f + s) 0
+pub length-start : {r : Register} → WellFormed r → {u f s : ℕ} → u ≡ ones (r .enrolled) → f ≡ ones (foundedRoles (r .roles))
+    → s ≡ ones (activeSessions (r .sessions)) → LengthTo r (26 + u + f * 20 + s * 6) 0
+unfolding foundedRoles activeSessions
 length-start {r} h {u} {f} {s} eu ef es =
     let users : u ≡ length (writeChosen (bytesOf 1) (r .enrolled) (r .domains)) = sym (mul-one u) ∙ chosen-counted (bytesOf 1) 1 (length-bytes 1) 64 (r .domains) (h .user-places) (h .enrolled) eu in
-    record { formed = h; below = omega arith; rest = omega (arith, image-sum r users ef refl es) }
+    let roles = where-counted writeRole 20 role-size (λ (x : Role). x .founded) 32 (r .roles) (h .role-places) ef in
+    let sessions = where-counted writeSession 6 session-size (λ (x : Session). x .active) 64 (r .sessions) (h .session-places) es in
+    record { formed = h; below = omega arith; rest = omega (arith, image-sum r users roles refl sessions) }
 
 module _ {r : Register} {n i : ℕ} (f : LengthTo r n i) where
   amount : r .count ≤ length (r .capabilities)

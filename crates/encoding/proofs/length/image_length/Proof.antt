@@ -1,6 +1,8 @@
 -- `encoding::length::image_length` meets its contract.
+use mathlib.Core.Path.{ap, _∙_}
 use Prim.Native.Nat.{_+_, _-_}
 use native.Mathlib.Omega.{arith}
+use lib.Count.{ones}
 use Rattle.model.proofs.Rules.{formed→}
 use Rattle.encoding.proofs.Lengths.{LengthTo, length-start, length-step, length-fits, length-done}
 use borrow.Author.Needs.{needs}
@@ -8,10 +10,10 @@ use Rattle.encoding.proofs.length.image_length.Statement.{statement}
 use Rattle.encoding.proofs.length.image_length.Tie as tie
 
 abbrev Inv-loop : tie.InvT-loop
-Inv-loop r count n₀ i₀ n i = LengthTo r n i
+Inv-loop r count founded active n₀ i₀ n i = LengthTo r n i
 
 abbrev μ-loop : tie.MeasureT-loop
-μ-loop r count n₀ i₀ n i = count - i
+μ-loop r count founded active n₀ i₀ n i = count - i
 
 abbrev at-loop : tie.At-loop Inv-loop μ-loop → tie.At-loop Inv-loop μ-loop
 at-loop c = c
@@ -19,10 +21,13 @@ at-loop c = c
 loop-holds : tie.Need-loop-holds Inv-loop μ-loop
 loop-holds c =
     let start : tie.Start Inv-loop μ-loop = search in
-    let users : tie.After-items Inv-loop μ-loop = search in
-    let roles : tie.After-roles-length Inv-loop μ-loop = search in
-    let sessions : tie.After-sessions-length Inv-loop μ-loop = search in
-    length-start (formed→ (start .args .t1) (start .pre)) (users .items .ensures .0) (roles .roles-length .ensures .0) (sessions .sessions-length .ensures .0)
+    let founded : tie.After-items Inv-loop μ-loop = search in
+    let active : tie.After-items2 Inv-loop μ-loop = search in
+    let users : tie.After-items3 Inv-loop μ-loop = search in
+    let roles : tie.After-founded-mask Inv-loop μ-loop = search in
+    let sessions : tie.After-active-mask Inv-loop μ-loop = search in
+    length-start (formed→ (start .args .t1) (start .pre)) (users .items3 .ensures .0)
+    (founded .items .ensures .0 ∙ ap ones (roles .founded-mask .ensures .0)) (active .items2 .ensures .0 ∙ ap ones (sessions .active-mask .ensures))
 
 next : (c : tie.After-capability-length Inv-loop μ-loop) → let l = at-loop (search) .loop in
     let start : tie.Start Inv-loop μ-loop = search in
@@ -34,7 +39,8 @@ image-length-spec =
     tie.close
     (tie.spec
     Inv-loop μ-loop
-    (λ c. search needs) (λ c κs. search needs) (λ c. search needs) (λ c κs. search needs) (λ c. search needs) (λ c κs. search needs) (λ c. search needs)
+    (λ c. search needs) (λ c κs. search needs) (λ c κs. search needs) (λ c κs. search needs) (λ c κs. search needs) (λ c κs. search needs)
+    (λ c. search needs) (λ c. search needs) (λ c. search needs) (λ c. search needs) (λ c. search needs)
     loop-holds
     (λ c. search needs) (λ c. search needs) (λ c κs. search needs)
     (λ c. omega (arith, length-fits (next (search))))
