@@ -2,4 +2,4 @@
 pub mod capability;
 mod limits;
 pub mod roles;
-pub mod sessions;
+pub mod session;

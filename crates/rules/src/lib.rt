@@ -2,7 +2,7 @@
 mod capability;
 mod columns;
 mod roles;
-mod sessions;
+mod session;
 
 ghost use mathlib.Core.Path.{_≡_};
 ghost use Prim.Native.Nat.{_≤_};
@@ -13,7 +13,7 @@ use columns::places;
 use model::Register;
 use roles::roles_keep;
 use roles::users_keep;
-use sessions::sessions_keep;
+use session::sessions_keep;
 
 // The rules, where the places from the bound on are known to be blank.
 fn keeps_below(r: Register, bound: usize) -> bool

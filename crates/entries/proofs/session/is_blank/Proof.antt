@@ -1,9 +1,9 @@
--- `entries::sessions::is_blank` meets its contract.
+-- `entries::session::is_blank` meets its contract.
 use borrow.Author.Needs.{needs}
 use Rattle.model.specs.Rules.{sessionBlank, sessionBlankTests}
 use Rattle.masks.proofs.Truth.{left-each}
-use Rattle.entries.proofs.sessions.is_blank.Statement.{statement}
-use Rattle.entries.proofs.sessions.is_blank.Tie as tie
+use Rattle.entries.proofs.session.is_blank.Statement.{statement}
+use Rattle.entries.proofs.session.is_blank.Tie as tie
 
 returns : tie.Need-returns
 unfolding sessionBlank

@@ -1,4 +1,4 @@
--- `rules::sessions::sessions_keep` meets its contract.
+-- `rules::session::sessions_keep` meets its contract.
 use mathlib.Core.Bool.{_&&_}
 use mathlib.Core.Path.{_≡_, ap, _∙_}
 use Prim.Native.Nat.{_%_, _≤_, _-_}
@@ -10,8 +10,8 @@ use Rattle.model.specs.State.{sessionAt}
 use Rattle.origins.proofs.Laws.{held-placed}
 use Rattle.rules.proofs.Laws.{all-more}
 use Rattle.rules.proofs.Agreement.{session-agrees}
-use Rattle.rules.proofs.sessions.sessions_keep.Statement.{statement}
-use Rattle.rules.proofs.sessions.sessions_keep.Tie as tie
+use Rattle.rules.proofs.session.sessions_keep.Statement.{statement}
+use Rattle.rules.proofs.session.sessions_keep.Tie as tie
 
 abbrev Inv-loop : tie.InvT-loop
 Inv-loop r enrolled count ok₀ i₀ ok i = (i ≤ 64) × (ok ≡ allBelow i (λ n. sessionKeeps (r .enrolled) (r .roles) (r .count) (r .capabilities) n (sessionAt (r .sessions) n)))

@@ -1,10 +1,10 @@
--- `entries::sessions::session_keeps` meets its contract.
+-- `entries::session::session_keeps` meets its contract.
 use mathlib.Core.Path.{_∙_}
 use borrow.Author.Needs.{needs}
 use Rattle.entries.specs.Limits.{sessionKeepsWith}
 use Rattle.masks.proofs.Truth.{cond-true, cond-false}
-use Rattle.entries.proofs.sessions.session_keeps.Statement.{statement}
-use Rattle.entries.proofs.sessions.session_keeps.Tie as tie
+use Rattle.entries.proofs.session.session_keeps.Statement.{statement}
+use Rattle.entries.proofs.session.session_keeps.Tie as tie
 
 returns : tie.Need-returns
 unfolding sessionKeepsWith

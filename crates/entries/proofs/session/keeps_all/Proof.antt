@@ -1,10 +1,10 @@
--- `entries::sessions::keeps_all` meets its contract.
+-- `entries::session::keeps_all` meets its contract.
 use borrow.Author.Needs.{needs}
 use Rattle.origins.specs.Terms.{termsIn}
 use Rattle.entries.specs.Limits.{sessionWith}
 use Rattle.masks.proofs.Truth.{left-each}
-use Rattle.entries.proofs.sessions.keeps_all.Statement.{statement}
-use Rattle.entries.proofs.sessions.keeps_all.Tie as tie
+use Rattle.entries.proofs.session.keeps_all.Statement.{statement}
+use Rattle.entries.proofs.session.keeps_all.Tie as tie
 
 returns : tie.Need-returns
 returns c =

@@ -3,7 +3,7 @@ ghost use mathlib.Core.Path.{_≡_};
 ghost use Rattle.masks.specs.Tests.{allBelow};
 ghost use Rattle.model.specs.State.{sessionAt};
 ghost use Rattle.model.specs.Rules.{sessionKeeps};
-use entries::sessions::session_keeps;
+use entries::session::session_keeps;
 use model::Register;
 use origins::numbers::capability_held;
 use origins::numbers::role_held;
