@@ -1,6 +1,6 @@
 // Fields by their codings: `codingOf` says what a code means.
 ghost use mathlib.Core.Path.{_≡_};
-ghost use Prim.Native.Nat.{_*_, _<_, _≤_};
+ghost use Prim.Native.Nat.{_+_, _*_, _<_, _≤_};
 ghost use lib.Dec.{T};
 ghost use lib.ListN.{length, drop};
 ghost use Rattle.masks.specs.Bytes.{front};
@@ -141,10 +141,10 @@ pub fn read_all(s: &[u8], from: usize, codes: &[u8], out: &mut [u64])
     }
 }
 
-// The fields from `from` on whose bit of the map is set, and 0 for the others.
-pub fn read_present(s: &[u8], from: usize, map: u64, codes: &[u8], out: &mut [u64])
+// The fields from `from` on whose bit of the map is set, and 0 for the others; where they end.
+pub fn read_present(s: &[u8], from: usize, map: u64, codes: &[u8], out: &mut [u64]) -> usize
     requires { ⌜ (from < 60000) × (length (now codes) ≡ length (now out)) × (length (now codes) ≤ 16) × T (narrow (now codes)) ⌝ }
-    ensures { λ _. ⌜ now (out .exit) ≡ readPresent map (codings (now (codes .entry))) (drop from (now (s .entry))) ⌝ }
+    ensures { λ q. ⌜ (now (out .exit) ≡ readPresent map (codings (now (codes .entry))) (drop from (now (s .entry)))) × (q ≡ from + presentLength map (codings (now (codes .entry)))) ⌝ }
 {
     let mut at = from;
     let mut m = map;
@@ -157,6 +157,7 @@ pub fn read_present(s: &[u8], from: usize, map: u64, codes: &[u8], out: &mut [u6
         m = m / 2;
         i += 1;
     }
+    at
 }
 
 // The bytes of the fields whose bit of the map is set.

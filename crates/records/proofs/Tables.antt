@@ -165,11 +165,11 @@ module _ (s : List ℕ) {h codes f : List ℕ} (at : ℕ) (b : Bytes s) (eh : h 
       ap (λ (x : ℕ). ltb (getD h 0 0) 2 && eqb x (getD h 3 0)) (eg ∙ ap fieldMap (present-is ∙ ap (readPresent (getD h 3 0) capabilityCodings) (sym (drop-drop 5 at s))))
       ∙ ap (λ (l : List ℕ). ltb (getD l 0 0) 2 && eqb (fieldMap (readPresent (getD l 3 0) capabilityCodings (drop 5 (drop at s)))) (getD l 3 0)) eh
 
-pub length-reads : (s : List ℕ) {h codes : List ℕ} (at : ℕ) {n : ℕ} → h ≡ readHead (drop at s) → codes ≡ capabilityCodes → n ≡ presentLength (getD h 3 0) (codings codes)
-    → at + 5 + n ≡ at + capabilityLength (drop at s)
+pub length-reads : (s : List ℕ) {h codes : List ℕ} (at : ℕ) {next : ℕ} → h ≡ readHead (drop at s) → codes ≡ capabilityCodes → next ≡ at + 5 + presentLength (getD h 3 0) (codings codes)
+    → next ≡ at + capabilityLength (drop at s)
 unfolding capabilityLength
-length-reads s {h} at {n} eh ec en =
-    let q : n ≡ presentLength (getD (readHead (drop at s)) 3 0) capabilityCodings = en ∙ ap (λ (l : List ℕ). presentLength (getD h 3 0) (codings l)) ec ∙ ap (presentLength (getD h 3 0)) (capability-codes .same) ∙ ap (λ (l : List ℕ). presentLength (getD l 3 0) capabilityCodings) eh in
+length-reads s {h} {codes} at eh ec en =
+    let q : presentLength (getD h 3 0) (codings codes) ≡ presentLength (getD (readHead (drop at s)) 3 0) capabilityCodings = ap (λ (l : List ℕ). presentLength (getD h 3 0) (codings l)) ec ∙ ap (presentLength (getD h 3 0)) (capability-codes .same) ∙ ap (λ (l : List ℕ). presentLength (getD l 3 0) capabilityCodings) eh in
     omega arith
 
 pub role-count : length roleCodes ≡ 6

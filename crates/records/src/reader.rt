@@ -10,7 +10,6 @@ use crate::record::head_codes;
 use crate::record::role_codes;
 use crate::record::session_codes;
 use fields::field::field_map;
-use fields::field::present_length;
 use fields::field::read_all;
 use fields::field::read_present;
 use model::Capability;
@@ -133,11 +132,11 @@ pub fn read_capability(s: &[u8], at: usize) -> ReadCapability
     let map = h[3];
     let codes = capability_codes();
     let mut f = [0u64; 15];
-    read_present(s, at + 5, map, &codes, &mut f);
+    let next = read_present(s, at + 5, map, &codes, &mut f);
     let set = field_map(&f);
     ReadCapability {
         exact: (kind < 2) & (set == map),
         capability: capability_of(h, f),
-        next: at + 5 + present_length(map, &codes),
+        next: next,
     }
 }

@@ -4,10 +4,10 @@ use mathlib.Core.List.{[], _++_}
 use Prim.Native.Nat.{_+_, _-_, _*_, _%_, _≤_}
 use native.Mathlib.Omega.{arith}
 use lib.ListN.{length, take, drop, getD, length-set, drop-of-length-le}
-use Rattle.model.specs.Fields.{width, readPresent}
+use Rattle.model.specs.Fields.{width, readPresent, presentLength}
 use Rattle.fields.specs.Codes.{codingOf, codings}
 use Rattle.fields.proofs.Parts.{fill-done}
-use Rattle.fields.proofs.Codes.{narrow-at, read-present-turn}
+use Rattle.fields.proofs.Codes.{narrow-at, read-present-turn, length-step}
 use borrow.Author.Needs.{needs}
 use Rattle.fields.proofs.field.read_present.Statement.{statement}
 use Rattle.fields.proofs.field.read_present.Tie as tie
@@ -18,6 +18,7 @@ Inv-loop s from map codes out₀ at₀ m₀ i₀ out at m i =
     × (take i out ++ readPresent m (codings (drop i codes)) (drop at s) ≡ readPresent map (codings codes) (drop from s))
     × (at ≤ from + 8 * i)
     × (length out ≡ length out₀)
+    × (at + presentLength m (codings (drop i codes)) ≡ from + presentLength map (codings codes))
 
 abbrev μ-loop : tie.MeasureT-loop
 μ-loop s from map codes out₀ at₀ m₀ i₀ out at m i = length codes - i
@@ -38,6 +39,7 @@ loop-again c =
       read-present-turn (a .codes .now) (l .i) (omega arith) (l .out) (a .s .now) (l .m) (l .at) _ _ _ (omega arith) (after-read-set .read-set .ensures) n (l .inv .1),
       omega (arith, narrow-at (a .codes .now) (l .i) (search) (omega arith)),
       simp length-set (l .inv .3),
+      omega (arith, n, length-step (a .codes .now) (l .i) (omega arith) (l .m)),
     )
 
 returns : tie.Need-returns Inv-loop μ-loop
@@ -45,7 +47,7 @@ returns c =
     let codes = start (search) .args .codes .now in
     let l = at-loop (search) .loop in
     let e : drop (l .i) codes ≡ [] = drop-of-length-le codes {i = l .i} (omega arith) in
-    sym (fill-done (l .out) (l .i) (omega arith)) ∙ (rw e at (l .inv .1))
+    (sym (fill-done (l .out) (l .i) (omega arith)) ∙ (rw e at (l .inv .1)), omega (arith, rw e at (l .inv .4)))
 
 pub read-present-spec : {M : Type 1} → statement M
 read-present-spec =

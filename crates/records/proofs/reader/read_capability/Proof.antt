@@ -1,12 +1,10 @@
 -- `records::reader::read_capability` meets its contract.
 use mathlib.Core.Path.{_≡_, _∙_}
-use Prim.Native.Nat.{_+_, _≤_}
+use Prim.Native.Nat.{_≤_}
 use native.Mathlib.Omega.{arith}
 use lib.Dec.{T}
-use lib.ListN.{length, drop}
-use Rattle.model.specs.Fields.{capabilityLength}
+use lib.ListN.{length}
 use Rattle.fields.specs.Codes.{narrow}
-use Rattle.records.proofs.Reading.{capability-length-small}
 use Rattle.records.proofs.Tables.{says-table, capability-codes, capability-count, head-fitted, present-fitted, capability-reads, exact-reads, length-reads}
 use borrow.Author.Needs.{needs}
 use Rattle.masks.proofs.Truth.{the}
@@ -24,15 +22,8 @@ capability-of-requires c κs =
     let a = start (search) .args in
     let h = the tie.After-read-head (search) .read-head .ensures in (
       head-fitted (a .s .now) (a .at) (search) h,
-      present-fitted (a .s .now) (a .at) (search) h (the tie.After-capability-codes (search) .capability-codes .ensures) (the tie.After-read-present (search) .read-present .ensures),
+      present-fitted (a .s .now) (a .at) (search) h (the tie.After-capability-codes (search) .capability-codes .ensures) (the tie.After-read-present (search) .read-present .ensures .0),
     )
-
--- the place after it
-next : (c : tie.After-present-length) → let start : tie.Start = search in
-    start .args .at + 5 + c .present-length .result ≡ start .args .at + capabilityLength (drop (start .args .at) (start .args .s .now))
-next c =
-    let a = start (search) .args in
-    length-reads (a .s .now) (a .at) (the tie.After-read-head (search) .read-head .ensures) (the tie.After-capability-codes (search) .capability-codes .ensures) (c .present-length .ensures)
 
 returns : tie.Need-returns
 returns c =
@@ -42,9 +33,9 @@ returns c =
     let h = the tie.After-read-head (search) .read-head .ensures in
     let t = the tie.After-capability-codes (search) .capability-codes .ensures in
     let p = the tie.After-read-present (search) .read-present .ensures in (
-      value .capability-of .ensures ∙ capability-reads (a .s .now) (a .at) b h t p,
-      next c,
-      exact-reads (a .s .now) (a .at) b h t p (search),
+      value .capability-of .ensures ∙ capability-reads (a .s .now) (a .at) b h t (p .0),
+      length-reads (a .s .now) (a .at) h t (p .1),
+      exact-reads (a .s .now) (a .at) b h t (p .0) (search),
     )
 
 pub read-capability-spec : {M : Type 1} → statement M
@@ -56,7 +47,4 @@ read-capability-spec =
     (λ c κs. let t = table (search) in (omega arith, t .0, t .1, t .2))
     (λ c. search needs) (λ c κs. search needs)
     capability-of-requires
-    (λ c. search needs) (λ c. search needs)
-    (λ c κs. let t = table (search) in (t .1, t .2))
-    (λ c. omega (arith, capability-length-small (drop (start (search) .args .at) (start (search) .args .s .now)), next c))
     returns)
