@@ -1,9 +1,8 @@
-//! The calls: the test of the invariant, then the call that is asked for.
+//! The calls (§5, §6): the test of the invariant, then the call asked for.
 //!
 //! Each call reads its arguments (2), asks for the things named (3), goes
-//! through its own refusals in the document's order, and only then changes
-//! the register: "A refusal is its number alone; register and lent areas stay
-//! untouched."
+//! through its own refusals in the order of its paragraph, and only then
+//! changes the register, so that a refusal leaves it alone (§5.1.3).
 
 mod administration;
 mod arguments;
@@ -16,8 +15,8 @@ use crate::register::Register;
 use crate::request::Request;
 use crate::rules::well_formed;
 
-/// Performs the request on any register. "The first that applies is answered:
-/// 15 (the register handed in breaks a shelf rule)", then the call's own.
+/// Performs the request on any register: 15 comes before all refusals of the
+/// call itself (§5.2.2).
 pub fn apply(register: &mut Register, request: &Request) -> Answer {
     refuse_if(!well_formed(register), NOT_WELL_FORMED)?;
     apply_trusted(register, request)

@@ -1,15 +1,14 @@
-//! The entry point for the payroll package: the document's door.
+//! The entry point for the payroll package (§11).
 
 use crate::image::{encode, load};
 use crate::journal::perform;
 use crate::refusal::{refuse_if, Answer, BUFFER_TOO_SHORT};
 
-/// The bytes before the image: "the new image's length (2 bytes)".
+/// The bytes before the new image, which are its length (§11.2.2).
 const PREFIX: usize = 2;
 
-/// The document's door. "It returns the value, or the refusal as a negative
-/// number; on acceptance the area starts with the new image's length (2 bytes)
-/// and the image, and its further bytes are untouched."
+/// Plays one line on the register of the image and writes the new image into
+/// the buffer (§11.1.1, §11.2.2): a value, or minus the number of a refusal.
 pub fn apply(image: &[u8], line: &[u8], buffer: &mut [u8]) -> i64 {
     match answer(image, line, buffer) {
         Ok(value) => value as i64,
@@ -17,9 +16,8 @@ pub fn apply(image: &[u8], line: &[u8], buffer: &mut [u8]) -> i64 {
     }
 }
 
-/// "Order: 14, 1, the call's own, 16 (the area is shorter than the new image
-/// and 2 bytes)." The line is "one line with its line feed (any other bytes
-/// get 1)": a second line feed is no part of any request, so it gets 1 too.
+/// The order of §11.2.1. A second line feed is no part of any request, so such
+/// a line gets 1 too (§11.1.3).
 fn answer(image: &[u8], line: &[u8], buffer: &mut [u8]) -> Answer {
     let mut register = load(image)?;
     let value = perform(&mut register, line)?;

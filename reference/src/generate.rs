@@ -13,7 +13,7 @@ pub use profile::Profile;
 pub use registers::register;
 pub use requests::{request, requests};
 
-/// Numbers at and around the edges of the document's ranges.
+/// Numbers at and around the edges of the ranges (§1.2.1, §1.2.2).
 pub const BOUNDARIES: [u64; 30] = [
     0,
     1,

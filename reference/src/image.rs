@@ -1,9 +1,8 @@
-//! The image: encode and save, decode and load.
+//! The image (§8): encode and save, decode and load.
 //!
-//! "High byte first in numbers; records in rising number; bit maps have item k
-//! at bit k mod 8 (lowest is 0) of byte k/8." Maps are those of the enrolled
-//! users, the roles there, the appointed users, the holders and the open
-//! sessions; all other masks are written as numbers.
+//! Numbers are big-endian (§8.1.1) and maps little-endian (§8.1.2). Maps are
+//! those of the enrolled users, the roles there, the appointed users, the
+//! holders and the open sessions; all other masks are written as numbers.
 
 mod reader;
 
@@ -11,15 +10,14 @@ use crate::refusal::{refuse_if, BAD_IMAGE, BUFFER_TOO_SHORT, NOT_WELL_FORMED};
 use crate::register::{Capability, Origin, Register, Role, Session, CAPABILITIES};
 use crate::rules::well_formed;
 
-/// "An image has at least 26 ... bytes": those of a fresh register.
+/// The bytes of a fresh register's image (§8.3.1).
 pub const SHORTEST: usize = 26;
-/// "... and at most 13,402 bytes."
+/// No image is longer (§8.3.1).
 pub const LONGEST: usize = 13_402;
-/// "Bit 14 is the revoked mark and has no field".
+/// The bit of the field map that stands for no field (§8.2.5).
 const REVOKED_MARK: u16 = 1 << 14;
 
-/// "**save** into an area. 16 area too short. The value is the length; bytes
-/// after it are untouched." The general 15 comes first.
+/// Writes the image at the start of the buffer, and gives its length (§8.4.1).
 pub fn save(register: &Register, buffer: &mut [u8]) -> Result<usize, u8> {
     refuse_if(!well_formed(register), NOT_WELL_FORMED)?;
     let image = encode(register);
@@ -28,8 +26,7 @@ pub fn save(register: &Register, buffer: &mut [u8]) -> Result<usize, u8> {
     Ok(image.len())
 }
 
-/// "**load** an image. 14 only: not exactly the layout below, a number out of
-/// range, or a shelf rule broken."
+/// The register of an image; 14 to all other bytes (§8.5).
 pub fn load(image: &[u8]) -> Result<Register, u8> {
     let register = reader::decode(image).ok_or(BAD_IMAGE)?;
     refuse_if(!well_formed(&register), BAD_IMAGE)?;
@@ -54,7 +51,7 @@ pub fn encode(register: &Register) -> Vec<u8> {
     out
 }
 
-/// "map of enrolled users (8), a domain byte each": the bytes.
+/// A domain for each enrolled user (§8.2.1).
 fn write_domains(out: &mut Vec<u8>, register: &Register) {
     for (user, &domain) in register.domains.iter().enumerate() {
         if register.has_user(user as u8) {
@@ -63,7 +60,7 @@ fn write_domains(out: &mut Vec<u8>, register: &Register) {
     }
 }
 
-/// "map of roles (4), each with ..."
+/// The map of founded roles, and their records (§8.2.1).
 fn write_roles(out: &mut Vec<u8>, register: &Register) {
     let founded = register.roles.iter().map(|role| role.founded);
     out.extend(&map_of(founded).to_le_bytes()[..4]);
@@ -72,8 +69,7 @@ fn write_roles(out: &mut Vec<u8>, register: &Register) {
     }
 }
 
-/// "domain (1), permissions (4), hours (3), places (2), devices (2), appointed
-/// (8, as a map)".
+/// A role's record (§8.2.2).
 fn write_role(out: &mut Vec<u8>, role: &Role) {
     out.push(role.domain);
     out.extend(role.permissions.to_be_bytes());
@@ -83,9 +79,8 @@ fn write_role(out: &mut Vec<u8>, role: &Role) {
     out.extend(role.appointed.to_le_bytes());
 }
 
-/// "A pass is kind, number, creator (1 each), then a 2-byte map as a number,
-/// then only the fields whose bit is set, which is exactly when they are not
-/// zero".
+/// A capability's record: head, field map, and the fields that are not 0
+/// (§8.2.4, §8.2.5).
 fn write_capability(out: &mut Vec<u8>, capability: &Capability) {
     let fields: [&[u8]; 14] = [
         &capability.permissions.to_be_bytes(),
@@ -117,8 +112,7 @@ fn write_capability(out: &mut Vec<u8>, capability: &Capability) {
     out.extend(present);
 }
 
-/// "map of open sessions (8), each with user (1), kind (1: 0 role, 1 pass),
-/// number (1), hour, place, device (1 each)."
+/// The map of open sessions, and their records (§8.2.1, §8.2.3).
 fn write_sessions(out: &mut Vec<u8>, register: &Register) {
     let open = register.sessions.iter().map(|session| session.active);
     out.extend(map_of(open).to_le_bytes());
@@ -130,7 +124,7 @@ fn write_sessions(out: &mut Vec<u8>, register: &Register) {
     }
 }
 
-/// "kind (1: 0 role, 1 pass), number (1)".
+/// Kind and number of an origin or target (§8.2.3).
 fn write_origin(out: &mut Vec<u8>, origin: Origin) {
     match origin {
         Origin::Role(number) => out.extend([0, number]),

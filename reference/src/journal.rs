@@ -1,20 +1,20 @@
-//! The journal: lines in, lines out.
+//! The journal (§10): lines in, lines out.
 
 use crate::calls::apply;
 use crate::lines::{parse, print};
 use crate::refusal::{Answer, MALFORMED};
 use crate::register::Register;
 
-/// "Above 32,768 bytes it prints just `no 1`."
+/// A longer input is not played (§10.1.4).
 pub const LONGEST_INPUT: usize = 32_768;
 
-/// "The journal program reads standard input, starts fresh and prints `ok` and
-/// the value, or `no` and the number, one line for each line."
+/// What the program prints for an input: a journal from a fresh register
+/// (§10.2.1).
 pub fn run(input: &[u8]) -> Vec<u8> {
     run_from(Register::fresh(), input)
 }
 
-/// The same from any register.
+/// A journal from any register (§10.1).
 pub fn run_from(mut register: Register, input: &[u8]) -> Vec<u8> {
     if input.len() > LONGEST_INPUT {
         return print(&Err(MALFORMED));
@@ -26,8 +26,8 @@ pub fn run_from(mut register: Register, input: &[u8]) -> Vec<u8> {
     output
 }
 
-/// The answer to one line with its line feed. "A line that yields no request
-/// gets 1. So does a last line without a line feed."
+/// The answer to one line with its line feed; 1 where that is missing (§10.1.3)
+/// or the line yields no request (§10.1.2).
 pub fn perform(register: &mut Register, line: &[u8]) -> Answer {
     let Some(content) = line.strip_suffix(b"\n") else {
         return Err(MALFORMED);

@@ -1,10 +1,8 @@
-//! The register of passes, written from its specification alone.
+//! The register of capabilities, a second time and independently.
 //!
-//! The identifiers use standard terms, and the comment at each definition
-//! names the word of the document: a pass is a [`register::Capability`], the
-//! shelf rules are the invariant tested by [`rules::well_formed`], the climb
-//! is the [`register::Lineage`], the door is [`entry::apply`], and an area is
-//! a buffer. The sentences in quotation marks are the document's.
+//! Numbers with § are paragraphs of docs/SPECIFICATION.md: the comment at each
+//! definition names those that it carries out. A [`register::Capability`] is
+//! called a pass in lines.
 
 pub mod calls;
 pub mod entry;

@@ -1,13 +1,11 @@
-//! Lines: a line of bytes to a request, and an answer to a line of bytes.
+//! Lines (§9): bytes to a request, and an answer to bytes.
 
 use crate::refusal::Answer;
 use crate::request::{Creation, Named, Opening, Request};
 
 /// The request of a line, given without its line feed; none if the line is
-/// malformed. "Lines are a call's word and exactly its arguments in the order
-/// above (numbers, and `role` or `pass` in create and open), with single
-/// spaces". The parts between spaces are taken as they are, so that a space
-/// too many leaves an empty part, which is neither a word nor a number.
+/// malformed (§9.1). The parts between spaces are taken as they are, so that a
+/// space too many leaves an empty part, which is neither a word nor a number.
 pub fn parse(line: &[u8]) -> Option<Request> {
     let mut parts = line.split(|&byte| byte == b' ');
     let word = parts.next()?;
@@ -71,8 +69,7 @@ fn parse_capability_call(word: &[u8], rest: &[&[u8]]) -> Option<Request> {
     }
 }
 
-/// "**create** user, `role` or `pass`, its number, hour place device, first
-/// last, use creation hop limits, hours places devices."
+/// The arguments of create (§6.8.1); its target is two of them (§9.1.2).
 fn parse_create(rest: &[&[u8]]) -> Option<Request> {
     let [user, kind, origin, tail @ ..] = rest else {
         return None;
@@ -97,7 +94,7 @@ fn parse_create(rest: &[&[u8]]) -> Option<Request> {
     }))
 }
 
-/// "**open** session user, `role` or `pass`, number, hour place device."
+/// The arguments of open (§6.12.1).
 fn parse_open(rest: &[&[u8]]) -> Option<Request> {
     let [session, user, kind, on, tail @ ..] = rest else {
         return None;
@@ -113,7 +110,7 @@ fn parse_open(rest: &[&[u8]]) -> Option<Request> {
     }))
 }
 
-/// "**amend** user pass change."
+/// The arguments of amend (§6.14.1).
 fn parse_amend(rest: &[&[u8]]) -> Option<Request> {
     let [user, capability, change] = rest else {
         return None;
@@ -125,7 +122,7 @@ fn parse_amend(rest: &[&[u8]]) -> Option<Request> {
     })
 }
 
-/// "exactly its arguments": all parts as numbers, if there are just N.
+/// All parts as numbers, if there are just N (§9.1.2).
 fn numbers<const N: usize>(parts: &[&[u8]]) -> Option<[u64; N]> {
     let parts: &[&[u8]; N] = parts.try_into().ok()?;
     let mut numbers = [0; N];
@@ -135,7 +132,7 @@ fn numbers<const N: usize>(parts: &[&[u8]]) -> Option<[u64; N]> {
     Some(numbers)
 }
 
-/// "Numbers are 0 to 4,294,967,295 without leading zeros".
+/// A number (§9.1.3).
 fn number(part: &[u8]) -> Option<u64> {
     let digits = !part.is_empty() && part.iter().all(u8::is_ascii_digit);
     let leading_zero = part.len() > 1 && part[0] == b'0';
@@ -146,7 +143,7 @@ fn number(part: &[u8]) -> Option<u64> {
     (value <= u64::from(u32::MAX)).then_some(value)
 }
 
-/// "only amend's change may bear a minus, and -0 is malformed."
+/// A change (§9.1.4).
 fn signed(part: &[u8]) -> Option<i64> {
     match part.strip_prefix(b"-") {
         None => number(part).map(|value| value as i64),
@@ -154,7 +151,7 @@ fn signed(part: &[u8]) -> Option<i64> {
     }
 }
 
-/// "`role` or `pass`, its number".
+/// A target: its kind and its number (§9.1.2).
 fn named(kind: &[u8], part: &[u8]) -> Option<Named> {
     match kind {
         b"role" => number(part).map(Named::Role),
@@ -163,8 +160,7 @@ fn named(kind: &[u8], part: &[u8]) -> Option<Named> {
     }
 }
 
-/// "prints `ok` and the value, or `no` and the number, one line for each
-/// line", with its line feed.
+/// An answer as a line with its line feed (§9.2.1).
 pub fn print(answer: &Answer) -> Vec<u8> {
     match answer {
         Ok(value) => format!("ok {value}\n").into_bytes(),

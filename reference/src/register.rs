@@ -1,45 +1,37 @@
-//! What the register holds, and what is read off it: authority, bounds,
-//! membership, life, context and lineage.
+//! What the register holds (§2), and what is read off it (§3): authority,
+//! bounds, membership, life, context and lineage.
 
-/// "users 0 to 63".
+/// How many of each there can be (§1.2.1): numbers run from 0.
 pub const USERS: usize = 64;
-/// "roles 0 to 31".
 pub const ROLES: usize = 32;
-/// "passes 0 to 255".
 pub const CAPABILITIES: usize = 256;
-/// "sessions 0 to 63".
 pub const SESSIONS: usize = 64;
-/// "Domains are 0 to 7".
 pub const DOMAINS: usize = 8;
-/// "permissions 0 to 31".
 pub const PERMISSIONS: usize = 32;
-/// "the hour (0 to 23)", and "hour mask (24 bits)".
+/// These are the widths of their masks too (§1.2.2).
 pub const HOURS: usize = 24;
-/// "place and device (0 to 15)", and masks of "16 bits each".
 pub const PLACES: usize = 16;
-/// "place and device (0 to 15)", and masks of "16 bits each".
 pub const DEVICES: usize = 16;
-/// "Permission 0 is \"create\"."
+/// The permission to derive capabilities (§1.2.4).
 pub const CREATE: u8 = 0;
-/// "each limit at most the origin's (a role's are 65,535)".
+/// The limits of a role (§3.3.5).
 pub const ROLE_LIMIT: u16 = 65_535;
 
-/// "origin (a role or a pass)"; also the "one role or pass" of a session.
+/// The origin of a capability (§2.1.3), or the target of a session (§2.1.4).
 #[derive(Clone, Copy, Debug, PartialEq, Eq)]
 pub enum Origin {
     Role(u8),
     Capability(u8),
 }
 
-/// "what is kept for a thing not there is 0": kind 0 is a role, number 0.
+/// The origin or target of what is not there (§4.1.3).
 impl Default for Origin {
     fn default() -> Origin {
         Origin::Role(0)
     }
 }
 
-/// "Role, once founded: domain, permissions, hour mask (24 bits), place and
-/// device masks (16 bits each), appointed users."
+/// A role (§2.1.2); all is 0 until it is founded.
 #[derive(Clone, Copy, Debug, Default, PartialEq, Eq)]
 pub struct Role {
     pub founded: bool,
@@ -51,10 +43,7 @@ pub struct Role {
     pub appointed: u64,
 }
 
-/// The document's pass: "origin (a role or a pass), creator, own permissions,
-/// lent roles, holders, first and last tick, limits and counts of uses,
-/// creations and hops (16 bits each), the three context masks, the revoked
-/// mark."
+/// A capability (§2.1.3).
 #[derive(Clone, Copy, Debug, Default, PartialEq, Eq)]
 pub struct Capability {
     pub origin: Origin,
@@ -76,8 +65,7 @@ pub struct Capability {
     pub revoked: bool,
 }
 
-/// "Session, while open: user, its one role or pass, and the hour (0 to 23),
-/// place and device (0 to 15) of its opening."
+/// A session (§2.1.4); all is 0 unless it is open.
 #[derive(Clone, Copy, Debug, Default, PartialEq, Eq)]
 pub struct Session {
     pub active: bool,
@@ -88,8 +76,7 @@ pub struct Session {
     pub device: u8,
 }
 
-/// Hour, place and device: "A context is admitted when all three masks have
-/// its bit."
+/// Hour, place and device (§3.3.4).
 #[derive(Clone, Copy, Debug, Default, PartialEq, Eq)]
 pub struct Context {
     pub hour: u8,
@@ -97,28 +84,29 @@ pub struct Context {
     pub device: u8,
 }
 
-/// The whole register of passes.
+/// The whole register (§2.1.1).
 #[derive(Clone, Debug, PartialEq, Eq)]
 pub struct Register {
-    /// "The clock: 32 bits, in ticks."
+    /// The present tick.
     pub clock: u32,
     /// Mask of the users that are enrolled.
     pub enrolled: u64,
-    /// "User: its domain, once enrolled."
+    /// The domain of each user who is enrolled, and 0 for the others.
     pub domains: [u8; USERS],
     pub roles: [Role; ROLES],
-    /// The number of passes; they have the numbers below it.
+    /// The number of capabilities; they have the numbers below it.
     pub count: u16,
     pub capabilities: [Capability; CAPABILITIES],
     pub sessions: [Session; SESSIONS],
 }
 
-/// All that a role or pass sets as bounds to the passes cut from it.
+/// All that a role or capability sets as bounds to those derived from it
+/// (§3.4.2).
 #[derive(Clone, Copy, Debug, PartialEq, Eq)]
 pub struct Bounds {
-    /// The permissions which it may give: those of its authority.
+    /// The permissions which it may give: those of its authority (§3.2.3).
     pub authority: u32,
-    /// The roles which it may give.
+    /// The roles which it may give (§3.2.4).
     pub roles: u32,
     pub hours: u32,
     pub places: u16,
@@ -131,29 +119,28 @@ pub struct Bounds {
     pub revoked: bool,
 }
 
-/// The document's climb: "from a pass, itself the first on it, to its origin
-/// ... and ends at a founded role".
+/// The lineage of a capability (§3.1.1).
 #[derive(Clone, Debug, PartialEq, Eq)]
 pub struct Lineage {
-    /// The passes, in falling number.
+    /// The capabilities on it, in falling number.
     pub capabilities: Vec<u8>,
     /// The role at its end.
     pub role: u8,
 }
 
-/// "A mask has bit k for item k". An item beyond the mask is not in it.
+/// Whether the item is in the mask (§1.2.2). One beyond the mask is not.
 pub fn has(mask: impl Into<u64>, item: u8) -> bool {
     let shifted = mask.into().checked_shr(u32::from(item));
     shifted.is_some_and(|rest| rest & 1 == 1)
 }
 
-/// "A mask exceeds another if it has a bit that the other lacks."
+/// Whether the mask is not within the other (§1.2.3).
 pub fn exceeds(mask: impl Into<u64>, other: impl Into<u64>) -> bool {
     mask.into() & !other.into() != 0
 }
 
 impl Register {
-    /// "A fresh register has clock 0 and nothing else."
+    /// The fresh register (§2.2.1).
     pub fn fresh() -> Register {
         Register {
             clock: 0,
@@ -166,7 +153,7 @@ impl Register {
         }
     }
 
-    /// Whether the user is there.
+    /// Whether the user is there (§2.1.5).
     pub fn has_user(&self, user: u8) -> bool {
         has(self.enrolled, user)
     }
@@ -177,12 +164,12 @@ impl Register {
         found.is_some_and(|role| role.founded)
     }
 
-    /// Whether the pass is there.
+    /// Whether the capability is there.
     pub fn has_capability(&self, number: u8) -> bool {
         u16::from(number) < self.count
     }
 
-    /// Whether the role or pass is there.
+    /// Whether the role or capability is there.
     pub fn has_origin(&self, origin: Origin) -> bool {
         match origin {
             Origin::Role(role) => self.has_role(role),
@@ -195,13 +182,12 @@ impl Register {
         &self.roles[usize::from(role)]
     }
 
-    /// The pass with this number.
+    /// The capability with this number.
     pub fn capability(&self, number: u8) -> &Capability {
         &self.capabilities[usize::from(number)]
     }
 
-    /// "A role's authority is its permissions. A pass's authority is its own
-    /// permissions joined with the authorities of its lent roles."
+    /// The authority of a role (§3.2.1) or of a capability (§3.2.2).
     pub fn authority(&self, origin: Origin) -> u32 {
         match origin {
             Origin::Role(role) => self.role(role).permissions,
@@ -209,7 +195,7 @@ impl Register {
         }
     }
 
-    /// The own permissions of a pass joined with those of its lent roles.
+    /// The own permissions of a capability joined with those of its lent roles.
     fn joined(&self, capability: &Capability) -> u32 {
         let mut authority = capability.permissions;
         for (number, role) in self.roles.iter().enumerate() {
@@ -220,7 +206,7 @@ impl Register {
         authority
     }
 
-    /// What the role or pass sets as bounds to the passes cut from it.
+    /// What the role or capability sets as bounds to those derived from it.
     pub fn bounds(&self, origin: Origin) -> Bounds {
         match origin {
             Origin::Role(role) => self.role_bounds(role),
@@ -228,9 +214,8 @@ impl Register {
         }
     }
 
-    /// "An origin may give the permissions of its authority, and ... where it
-    /// is a role, just itself." Its life "is 0 to 4,294,967,295", its limits
-    /// "are 65,535", and of revoked: "a role never is."
+    /// A role lends itself alone (§3.2.4), is always in life (§3.3.3), has the
+    /// largest limits and is never revoked (§3.3.5).
     fn role_bounds(&self, number: u8) -> Bounds {
         let role = self.role(number);
         Bounds {
@@ -248,8 +233,7 @@ impl Register {
         }
     }
 
-    /// "An origin may give the permissions of its authority, and the roles
-    /// lent to it".
+    /// A capability lends the roles lent to it (§3.2.4).
     fn capability_bounds(&self, number: u8) -> Bounds {
         let capability = self.capability(number);
         Bounds {
@@ -267,7 +251,7 @@ impl Register {
         }
     }
 
-    /// The users appointed to the role, or the holders of the pass.
+    /// The users appointed to the role, or the holders (§3.3.1).
     pub fn members(&self, origin: Origin) -> u64 {
         match origin {
             Origin::Role(role) => self.role(role).appointed,
@@ -275,13 +259,13 @@ impl Register {
         }
     }
 
-    /// "A life includes both its ends."
+    /// Whether the clock is in the life, ends included (§3.3.2, §3.3.3).
     pub fn in_life(&self, origin: Origin) -> bool {
         let bounds = self.bounds(origin);
         bounds.first <= self.clock && self.clock <= bounds.last
     }
 
-    /// "A context is admitted when all three masks have its bit."
+    /// Whether all three masks have the context (§3.3.4).
     pub fn admits(&self, origin: Origin, context: Context) -> bool {
         let bounds = self.bounds(origin);
         has(bounds.hours, context.hour)
@@ -289,8 +273,8 @@ impl Register {
             && has(bounds.devices, context.device)
     }
 
-    /// The climb from this pass. The register must keep the rules: each
-    /// origin's "number is smaller where it is a pass", so the climb ends.
+    /// The lineage of this capability (§3.1.1). The register must keep the
+    /// rules: origins have smaller numbers (§4.3.2), so the lineage ends.
     pub fn lineage(&self, number: u8) -> Lineage {
         let mut capabilities = vec![number];
         let mut origin = self.capability(number).origin;
@@ -305,13 +289,13 @@ impl Register {
         }
     }
 
-    /// Whether the pass `lower` is below the pass `upper`: another one, with
-    /// `upper` on its climb.
+    /// Whether the capability `lower` is below `upper`: another one, with
+    /// `upper` on its lineage (§3.1.2).
     pub fn is_below(&self, lower: u8, upper: u8) -> bool {
         lower != upper && self.lineage(lower).capabilities.contains(&upper)
     }
 
-    /// The numbers of all passes, rising.
+    /// The numbers of all capabilities, rising.
     pub fn numbers(&self) -> impl Iterator<Item = u8> {
         (0..self.count).map(|number| number as u8)
     }

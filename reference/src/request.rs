@@ -1,17 +1,16 @@
-//! The requests: one case for each call of the register.
+//! The requests: one case for each call of the register (§5.1.1).
 //!
-//! Numbers are as wide as 64 bits here, so that every number out of the
-//! document's ranges can be asked for; such a number is refused with 2.
+//! Numbers are as wide as 64 bits here, so that every number out of its range
+//! can be asked for; such a number is refused with 2 (§5.2.3).
 
-/// "`role` or `pass`, its number", in create and open.
+/// The target of create and open.
 #[derive(Clone, Copy, Debug, PartialEq, Eq)]
 pub enum Named {
     Role(u64),
     Capability(u64),
 }
 
-/// "**create** user, `role` or `pass`, its number, hour place device, first
-/// last, use creation hop limits, hours places devices."
+/// The arguments of create (§6.8.1).
 #[derive(Clone, Copy, Debug, PartialEq, Eq)]
 pub struct Creation {
     pub user: u64,
@@ -29,7 +28,7 @@ pub struct Creation {
     pub devices: u64,
 }
 
-/// "**open** session user, `role` or `pass`, number, hour place device."
+/// The arguments of open (§6.12.1).
 #[derive(Clone, Copy, Debug, PartialEq, Eq)]
 pub struct Opening {
     pub session: u64,
@@ -40,8 +39,8 @@ pub struct Opening {
     pub device: u64,
 }
 
-/// One call with its arguments, "in the order above" of the document. The
-/// word `pass` of the document is `capability` in the names of arguments.
+/// One call with its arguments, in the order of §6, where a capability is
+/// named by the word `pass`.
 #[derive(Clone, Copy, Debug, PartialEq, Eq)]
 pub enum Request {
     Enrol { user: u64, domain: u64 },
@@ -63,7 +62,7 @@ pub enum Request {
     Same { first: u64, second: u64 },
 }
 
-/// The words of the calls, in the order of the document and of [`Request`].
+/// The words of the calls, in the order of §6 and of [`Request`].
 pub const WORDS: [&str; 17] = [
     "enrol", "found", "grant", "withdraw", "appoint", "dismiss", "clock", "create", "allow",
     "lend", "hand", "open", "check", "amend", "revoke", "close", "same",

@@ -1,4 +1,4 @@
-//! The invariant: the document's shelf rules, as a test of any register.
+//! The invariant: the rules (§4), as a test of any register.
 //!
 //! The test never panics, whatever the register holds: the parts below are
 //! asked in an order in which each relies only on those before it.
@@ -8,7 +8,7 @@ use crate::register::{
     DOMAINS, HOURS, PLACES,
 };
 
-/// Whether the register keeps all shelf rules.
+/// Whether the register keeps all rules (§4.1.1).
 pub fn well_formed(register: &Register) -> bool {
     users_kept(register)
         && roles_kept(register)
@@ -17,8 +17,8 @@ pub fn well_formed(register: &Register) -> bool {
         && register.sessions.iter().all(|session| session_kept(register, session))
 }
 
-/// "Every number is in its range, and what is kept for a thing not there is
-/// 0": for the users, this is their domain.
+/// Of a user the register has the domain: in range if the user is there
+/// (§4.1.2), else 0 (§4.1.3).
 fn users_kept(register: &Register) -> bool {
     let mut users = register.domains.iter().enumerate();
     users.all(|(user, &domain)| match register.has_user(user as u8) {
@@ -27,6 +27,7 @@ fn users_kept(register: &Register) -> bool {
     })
 }
 
+/// A role that is not founded is 0 throughout (§4.1.3).
 fn roles_kept(register: &Register) -> bool {
     register.roles.iter().all(|role| match role.founded {
         true => founded_role_kept(register, role),
@@ -34,8 +35,7 @@ fn roles_kept(register: &Register) -> bool {
     })
 }
 
-/// Ranges of a founded role; "Users ... that are named exist; appointed users
-/// share the role's domain."
+/// Ranges of a founded role (§4.1.2), and its appointed users (§4.2.1).
 fn founded_role_kept(register: &Register, role: &Role) -> bool {
     usize::from(role.domain) < DOMAINS
         && hours_in_range(role.hours)
@@ -43,7 +43,7 @@ fn founded_role_kept(register: &Register, role: &Role) -> bool {
         && !exceeds(role.appointed, users_of_domain(register, role.domain))
 }
 
-/// The mask of the users for whom this domain is kept.
+/// The mask of the users with this domain; one not enrolled has domain 0.
 fn users_of_domain(register: &Register, domain: u8) -> u64 {
     let mut mask = 0;
     for (user, &kept) in register.domains.iter().enumerate() {
@@ -52,12 +52,12 @@ fn users_of_domain(register: &Register, domain: u8) -> u64 {
     mask
 }
 
-/// "hour mask (24 bits)"; the other masks fill their numbers.
+/// Masks of hours have 24 bits (§1.2.2); the other masks fill their numbers.
 fn hours_in_range(hours: u32) -> bool {
     hours < 1 << HOURS
 }
 
-/// At most 256 passes, and "what is kept for a thing not there is 0".
+/// At most 256 capabilities (§4.1.2), and 0 from the count on (§4.1.3).
 fn count_kept(register: &Register) -> bool {
     let count = usize::from(register.count);
     count <= CAPABILITIES
@@ -78,7 +78,7 @@ fn capabilities_kept(register: &Register) -> bool {
         })
 }
 
-/// For every number, of how many passes it is the origin.
+/// For every number, of how many capabilities it is the origin.
 fn children(register: &Register) -> [u16; CAPABILITIES] {
     let mut children = [0; CAPABILITIES];
     for number in register.numbers() {
@@ -89,9 +89,8 @@ fn children(register: &Register) -> [u16; CAPABILITIES] {
     children
 }
 
-/// "Users, roles and passes that are named exist", and the climb goes "to its
-/// origin, whose number is smaller where it is a pass, and ends at a founded
-/// role."
+/// What a capability names is there (§4.3.1), and its origin comes before it
+/// (§4.3.2).
 fn names_kept(register: &Register, number: u8) -> bool {
     let capability = register.capability(number);
     let origin_kept = match capability.origin {
@@ -104,7 +103,7 @@ fn names_kept(register: &Register, number: u8) -> bool {
         && !exceeds(capability.lent, founded_roles(register))
 }
 
-/// The mask of the roles that are there.
+/// The mask of the founded roles.
 fn founded_roles(register: &Register) -> u32 {
     let mut mask = 0;
     for (number, role) in register.roles.iter().enumerate() {
@@ -113,9 +112,7 @@ fn founded_roles(register: &Register) -> u32 {
     mask
 }
 
-/// "own permissions within the origin's authority; lent roles within the
-/// origin's lent roles, or, where the origin is a role, none or just that
-/// role; each context mask within; ... the revoked mark if the origin has it."
+/// Permissions, roles, masks and mark of §3.4.2, of which §4.3.3 speaks.
 fn content_within(capability: &Capability, bounds: &Bounds) -> bool {
     !exceeds(capability.permissions, bounds.authority)
         && !exceeds(capability.lent, bounds.roles)
@@ -125,8 +122,7 @@ fn content_within(capability: &Capability, bounds: &Bounds) -> bool {
         && (capability.revoked || !bounds.revoked)
 }
 
-/// "life within (a role's is 0 to 4,294,967,295); each limit at most the
-/// origin's (a role's are 65,535)"; "First tick is at most last."
+/// Life and limits of §3.4.2, and the order of the two ticks (§4.3.4).
 fn limits_within(capability: &Capability, bounds: &Bounds) -> bool {
     bounds.first <= capability.first
         && capability.first <= capability.last
@@ -136,9 +132,8 @@ fn limits_within(capability: &Capability, bounds: &Bounds) -> bool {
         && capability.hop_limit <= bounds.hop_limit
 }
 
-/// "For every pass its hop count equals the number of its holders, its
-/// creations count equals the number of passes whose origin it is, and both
-/// are at most their limits." Uses are not compared with theirs.
+/// Hops (§4.3.5) and creations (§4.3.6). Uses are not compared with their
+/// limit (§4.3.7).
 fn counts_kept(capability: &Capability, children: u16) -> bool {
     u32::from(capability.hops) == capability.holders.count_ones()
         && capability.creations == children
@@ -146,8 +141,8 @@ fn counts_kept(capability: &Capability, children: u16) -> bool {
         && capability.creations <= capability.creation_limit
 }
 
-/// "A session's context has its ranges and is admitted by its role or pass",
-/// both of which exist, as its user does.
+/// A session that is not open is 0 throughout (§4.1.3); of an open one the
+/// user and target are there, and the target admits the context (§4.4.1).
 fn session_kept(register: &Register, session: &Session) -> bool {
     if !session.active {
         return *session == Session::default();

@@ -1,4 +1,4 @@
-//! The mission's third demand on random lists of calls.
+//! The guarantee over lists (§7.2) on random ones.
 
 mod common;
 #[path = "common/monitor.rs"]
@@ -97,8 +97,8 @@ fn lists_from_random_registers() {
     assert!(tally.changed_checks >= 100, "{tally:?}");
 }
 
-/// "In a list, same, save and a refused load leave the register as it is, and
-/// an accepted load starts the list anew from its image".
+/// Lists with loads (§7.1.2); after an accepted one, derivation is what its
+/// image shows (§7.1.3).
 #[test]
 fn lists_with_loads() {
     let mut random = Random::new(6);

@@ -1,4 +1,4 @@
-//! The edges E1 to E8 of the document, and its four mistakes to guard against.
+//! The edges E1 to E8 (§12.1.1), and the four mistakes of §12.2.
 
 mod common;
 
@@ -18,7 +18,7 @@ const BASE: [&str; 9] = [
     "appoint 0 0",
 ];
 
-/// The base, and a pass of life 0 to 100 with use limit 2, held by user 0.
+/// The base, and a capability of life 0 to 100 with use limit 2, held by user 0.
 fn with_capability() -> Register {
     let mut register = after(&BASE);
     let create = format!("create 0 role 0 9 0 0 0 100 2 9 9 {ALL}");
@@ -108,7 +108,7 @@ fn e8_26_zero_bytes_load_fresh() {
     assert_eq!(load(&[0; 27]), Err(14));
 }
 
-/// "marking only direct children"
+/// Grandchildren are marked too (§12.2.1).
 #[test]
 fn mistake_revoke_marks_all_below() {
     let mut register = with_capability();
@@ -127,7 +127,7 @@ fn mistake_revoke_marks_all_below() {
     accepts(&register, "check 1 0", 0);
 }
 
-/// "measuring allow by all the creator's roles"
+/// Another role of the creator does not count (§12.2.2).
 #[test]
 fn mistake_allow_is_measured_by_the_origin() {
     let mut register = with_capability();
@@ -140,8 +140,7 @@ fn mistake_allow_is_measured_by_the_origin() {
     accepts(&register, "allow 0 1 16", 16);
 }
 
-/// "reviving an own permission when a withdrawn one is granted again (a lent
-/// role does bring it back)"
+/// Only a lent role brings a permission back (§12.2.3).
 #[test]
 fn mistake_withdrawn_permission_is_not_revived() {
     let mut register = with_capability();
@@ -160,7 +159,7 @@ fn mistake_withdrawn_permission_is_not_revived() {
     assert_eq!(register.capabilities[0].permissions, 15);
 }
 
-/// "counting a refused opening as a use"
+/// Refused openings are not counted (§12.2.4).
 #[test]
 fn mistake_refused_opening_is_no_use() {
     let mut register = with_capability();

@@ -109,8 +109,8 @@ fn registers_made_by_calls_make_round_trips() {
     }
 }
 
-/// The document's bound is 13,402; the last pass of a chain is nobody's
-/// origin, so that its field of creations is absent.
+/// Two bytes below the bound (§8.3.1): the last capability of a chain is
+/// nobody's origin, so that its field of creations is absent.
 #[test]
 fn a_chain_of_256_capabilities_has_13400_bytes() {
     let register = longest_chain();

@@ -1,4 +1,4 @@
-//! Each shelf rule broken by itself, and what the rules do not forbid.
+//! Each rule (§4) broken by itself, and what the rules do not forbid.
 
 mod common;
 

@@ -1,4 +1,4 @@
-//! The listing of the document, whole and byte for byte.
+//! The listing (§12.3.1), whole and byte for byte.
 
 mod common;
 

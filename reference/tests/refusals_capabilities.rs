@@ -222,8 +222,8 @@ fn amend_in_order() {
     accepts(&register, "amend 3 3 -65535", 0);
 }
 
-/// "Uses made stay. Every pass below is then cut to the new limit, never
-/// raised." Revoked ones are cut too.
+/// The limits below are lowered, those of revoked capabilities too, and uses
+/// stay (§6.14.2).
 #[test]
 fn amend_cuts_all_below() {
     let mut register = sample();

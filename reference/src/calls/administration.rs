@@ -1,11 +1,11 @@
 //! Users, roles and the clock: enrol, found, grant, withdraw, appoint,
-//! dismiss, clock.
+//! dismiss, clock (§6.1 to §6.7).
 
 use super::arguments::{self, need_origin, need_user};
 use crate::refusal::{refuse_if, Answer, CLOCK_BACKWARDS, DOMAINS_DIFFER, NO_CHANGE};
 use crate::register::{has, Origin, Register, Role};
 
-/// "**enrol** user domain. 2; 4 already enrolled."
+/// Enrols a user in a domain (§6.1.1).
 pub fn enrol(register: &mut Register, user: u64, domain: u64) -> Answer {
     let user = arguments::user(user)?;
     let domain = arguments::domain(domain)?;
@@ -15,7 +15,7 @@ pub fn enrol(register: &mut Register, user: u64, domain: u64) -> Answer {
     Ok(0)
 }
 
-/// "**found** role domain hours places devices. 2; 4 already founded."
+/// Founds a role with its masks of hours, places and devices (§6.2.1).
 pub fn found(register: &mut Register, role: u64, domain: u64, masks: [u64; 3]) -> Answer {
     let role = arguments::role(role)?;
     let new = Role {
@@ -32,7 +32,7 @@ pub fn found(register: &mut Register, role: u64, domain: u64, masks: [u64; 3]) -
     Ok(0)
 }
 
-/// "**grant**, **withdraw** role permission. 2; 3; 4."
+/// Gives a permission to a role (§6.3.1).
 pub fn grant(register: &mut Register, role: u64, permission: u64) -> Answer {
     let role = arguments::role(role)?;
     let permission = arguments::permission(permission)?;
@@ -42,9 +42,8 @@ pub fn grant(register: &mut Register, role: u64, permission: u64) -> Answer {
     Ok(0)
 }
 
-/// "**grant**, **withdraw** role permission. 2; 3; 4. Withdraw then goes over
-/// all passes in rising number, revoked ones too, cutting own permissions to
-/// the origin's authority."
+/// Takes a permission from a role (§6.4.1), then from what goes back to it, in
+/// one rising sweep (§6.4.2).
 pub fn withdraw(register: &mut Register, role: u64, permission: u64) -> Answer {
     let role = arguments::role(role)?;
     let permission = arguments::permission(permission)?;
@@ -58,8 +57,7 @@ pub fn withdraw(register: &mut Register, role: u64, permission: u64) -> Answer {
     Ok(0)
 }
 
-/// "**appoint**, **dismiss** user role. 2; 3; 5 domains differ (appoint only);
-/// 4."
+/// Appoints a user to a role of the same domain (§6.5.1).
 pub fn appoint(register: &mut Register, user: u64, role: u64) -> Answer {
     let user = arguments::user(user)?;
     let role = arguments::role(role)?;
@@ -72,8 +70,7 @@ pub fn appoint(register: &mut Register, user: u64, role: u64) -> Answer {
     Ok(0)
 }
 
-/// "**appoint**, **dismiss** user role. 2; 3; ... 4. Passes stay when their
-/// creator is dismissed."
+/// Ends an appointment, and nothing else (§6.6.1).
 pub fn dismiss(register: &mut Register, user: u64, role: u64) -> Answer {
     let user = arguments::user(user)?;
     let role = arguments::role(role)?;
@@ -84,7 +81,7 @@ pub fn dismiss(register: &mut Register, user: u64, role: u64) -> Answer {
     Ok(0)
 }
 
-/// "**clock** tick. 13 below the present clock; the same tick is accepted."
+/// Moves the clock on, or leaves it where it is (§6.7.1).
 pub fn clock(register: &mut Register, tick: u64) -> Answer {
     let tick = arguments::tick(tick)?;
     refuse_if(tick < register.clock, CLOCK_BACKWARDS)?;

@@ -1,5 +1,5 @@
-//! Reading of arguments: "2 (a number out of the ranges above)", and
-//! "3 (a user, role or pass not there, or a session not open ...)".
+//! Reading of arguments: each in its range, else 2 (§5.2.3), and what it names
+//! there, else 3 (§5.2.4).
 
 use crate::refusal::{refuse_if, NOT_ADMITTED, NOT_THERE, OUT_OF_LIFE, OUT_OF_RANGE, REVOKED};
 use crate::register::{
@@ -14,67 +14,67 @@ fn below<T: TryFrom<u64>>(number: u64, end: u64) -> Result<T, u8> {
     T::try_from(number).map_err(|_| OUT_OF_RANGE)
 }
 
-/// "users 0 to 63".
+/// The number of a user; here and below the ranges are those of §1.2.1.
 pub fn user(number: u64) -> Result<u8, u8> {
     below(number, USERS as u64)
 }
 
-/// "Domains are 0 to 7".
+/// The number of a domain.
 pub fn domain(number: u64) -> Result<u8, u8> {
     below(number, DOMAINS as u64)
 }
 
-/// "roles 0 to 31".
+/// The number of a role.
 pub fn role(number: u64) -> Result<u8, u8> {
     below(number, ROLES as u64)
 }
 
-/// "permissions 0 to 31".
+/// The number of a permission.
 pub fn permission(number: u64) -> Result<u8, u8> {
     below(number, PERMISSIONS as u64)
 }
 
-/// "passes 0 to 255".
+/// The number of a capability.
 pub fn capability(number: u64) -> Result<u8, u8> {
     below(number, CAPABILITIES as u64)
 }
 
-/// "sessions 0 to 63".
+/// The number of a session.
 pub fn session(number: u64) -> Result<u8, u8> {
     below(number, SESSIONS as u64)
 }
 
-/// "The clock: 32 bits, in ticks."
+/// A tick.
 pub fn tick(number: u64) -> Result<u32, u8> {
     below(number, 1 << u32::BITS)
 }
 
-/// A mask of 32 permissions or 32 roles.
+/// A mask of permissions or of roles; the widths of masks are in §1.2.2.
 pub fn mask(number: u64) -> Result<u32, u8> {
     below(number, 1 << u32::BITS)
 }
 
-/// "hour mask (24 bits)".
+/// A mask of hours.
 pub fn hours(number: u64) -> Result<u32, u8> {
     below(number, 1 << HOURS)
 }
 
-/// "place and device masks (16 bits each)".
+/// A mask of places.
 pub fn places(number: u64) -> Result<u16, u8> {
     below(number, 1 << PLACES)
 }
 
-/// "place and device masks (16 bits each)".
+/// A mask of devices.
 pub fn devices(number: u64) -> Result<u16, u8> {
     below(number, 1 << DEVICES)
 }
 
-/// "limits and counts of uses, creations and hops (16 bits each)".
+/// A limit of uses, creations or hops.
 pub fn limit(number: u64) -> Result<u16, u8> {
     below(number, 1 << u16::BITS)
 }
 
-/// "the hour (0 to 23), place and device (0 to 15)".
+/// A context.
 pub fn context(hour: u64, place: u64, device: u64) -> Result<Context, u8> {
     Ok(Context {
         hour: below(hour, HOURS as u64)?,
@@ -83,7 +83,7 @@ pub fn context(hour: u64, place: u64, device: u64) -> Result<Context, u8> {
     })
 }
 
-/// "`role` or `pass`, its number".
+/// A target: its number has the range of its kind (§5.2.3).
 pub fn origin(named: Named) -> Result<Origin, u8> {
     match named {
         Named::Role(number) => role(number).map(Origin::Role),
@@ -96,7 +96,7 @@ pub fn need_user(register: &Register, user: u8) -> Result<(), u8> {
     refuse_if(!register.has_user(user), NOT_THERE)
 }
 
-/// Refuses a role or pass that is not there.
+/// Refuses a role or capability that is not there.
 pub fn need_origin(register: &Register, origin: Origin) -> Result<(), u8> {
     refuse_if(!register.has_origin(origin), NOT_THERE)
 }
@@ -106,8 +106,8 @@ pub fn need_session(register: &Register, session: u8) -> Result<(), u8> {
     refuse_if(!register.sessions[usize::from(session)].active, NOT_THERE)
 }
 
-/// What create and open ask alike of the role or pass, after 6: 7 revoked,
-/// 8 its life excludes the clock, 9 it does not admit the context.
+/// What create (§6.8.1) and open (§6.12.1) ask alike of their target, after 6:
+/// 7, 8 and 9.
 pub fn need_usable(register: &Register, origin: Origin, context: Context) -> Result<(), u8> {
     refuse_if(register.bounds(origin).revoked, REVOKED)?;
     refuse_if(!register.in_life(origin), OUT_OF_LIFE)?;

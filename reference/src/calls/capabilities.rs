@@ -1,4 +1,5 @@
-//! Making passes and giving by them: create, allow, lend, hand.
+//! Making capabilities and giving by them: create, allow, lend, hand (§6.8 to
+//! §6.11).
 
 use super::arguments::{self, need_origin, need_usable, need_user};
 use crate::refusal::{
@@ -8,11 +9,7 @@ use crate::refusal::{
 use crate::register::{exceeds, has, Bounds, Capability, Origin, Register, CAPABILITIES, CREATE};
 use crate::request::Creation;
 
-/// "**create** ... 2, also for first above last; 3; 6 user not appointed or
-/// not a holder, or authority lacks create; 7; 8 origin's life excludes the
-/// clock; 9 context not admitted by the origin; 10 origin's creations are at
-/// their limit; 11 life, a limit or a mask exceeds the origin's; 12 256 passes
-/// are there."
+/// Derives a capability: refusals by §6.8.1, what is made by §6.8.2.
 pub fn create(register: &mut Register, asked: &Creation) -> Answer {
     let user = arguments::user(asked.user)?;
     let origin = arguments::origin(asked.origin)?;
@@ -31,7 +28,7 @@ pub fn create(register: &mut Register, asked: &Creation) -> Answer {
     Ok(u64::from(register.count) - 1)
 }
 
-/// The new pass: "no authority, no holder, counts 0".
+/// The new capability, with nothing given to it yet (§6.8.2).
 fn proposed(asked: &Creation, creator: u8, origin: Origin) -> Result<Capability, u8> {
     Ok(Capability {
         origin,
@@ -48,7 +45,7 @@ fn proposed(asked: &Creation, creator: u8, origin: Origin) -> Result<Capability,
     })
 }
 
-/// "10 origin's creations are at their limit": a role counts none.
+/// Whether the origin has no creation left; a role counts none (§5.2.5).
 fn creations_at_limit(register: &Register, origin: Origin) -> bool {
     match origin {
         Origin::Role(_) => false,
@@ -59,9 +56,7 @@ fn creations_at_limit(register: &Register, origin: Origin) -> bool {
     }
 }
 
-/// "11 life, a limit or a mask exceeds the origin's". A life lies "within one
-/// that starts no later and ends no earlier, a limit within one at least as
-/// large."
+/// Whether life, limits or masks are not within those of the origin (§3.4.1).
 fn exceeds_bounds(new: &Capability, bounds: &Bounds) -> bool {
     new.first < bounds.first
         || new.last > bounds.last
@@ -73,8 +68,7 @@ fn exceeds_bounds(new: &Capability, bounds: &Bounds) -> bool {
         || exceeds(new.devices, bounds.devices)
 }
 
-/// "The new pass has the next number ...; a pass as origin counts one creation
-/// more."
+/// Puts the capability at the count, and counts it for its origin (§6.8.2).
 fn add(register: &mut Register, new: Capability) {
     if let Origin::Capability(upper) = new.origin {
         register.capabilities[usize::from(upper)].creations += 1;
@@ -83,8 +77,7 @@ fn add(register: &mut Register, new: Capability) {
     register.count += 1;
 }
 
-/// What allow, lend and hand ask alike, after 2: "3; 6 user is not the
-/// creator; 7".
+/// What allow, lend and hand ask alike, after 2: 3, then 6 and 7.
 fn need_creator(register: &Register, user: u8, number: u8) -> Result<(), u8> {
     need_user(register, user)?;
     need_origin(register, Origin::Capability(number))?;
@@ -92,9 +85,7 @@ fn need_creator(register: &Register, user: u8, number: u8) -> Result<(), u8> {
     refuse_if(register.capability(number).revoked, REVOKED)
 }
 
-/// "**allow** user pass permissions ... 2; 3; 6 user is not the creator; 7;
-/// 11 the mask exceeds what the origin may give ...; 4 it adds no bit to the
-/// own permissions or lent roles. The value is the authority after it."
+/// Adds own permissions to a capability (§6.9.1).
 pub fn allow(register: &mut Register, user: u64, capability: u64, permissions: u64) -> Answer {
     let user = arguments::user(user)?;
     let number = arguments::capability(capability)?;
@@ -108,10 +99,7 @@ pub fn allow(register: &mut Register, user: u64, capability: u64, permissions: u
     Ok(u64::from(register.authority(Origin::Capability(number))))
 }
 
-/// "**lend** user pass roles (masks). 2; 3; 6 user is not the creator; 7; 11
-/// the mask exceeds what the origin may give (also for a role not founded); 4
-/// it adds no bit to the own permissions or lent roles. The value is the
-/// authority after it."
+/// Adds lent roles to a capability (§6.10.1).
 pub fn lend(register: &mut Register, user: u64, capability: u64, roles: u64) -> Answer {
     let user = arguments::user(user)?;
     let number = arguments::capability(capability)?;
@@ -125,8 +113,7 @@ pub fn lend(register: &mut Register, user: u64, capability: u64, roles: u64) -> 
     Ok(u64::from(register.authority(Origin::Capability(number))))
 }
 
-/// "**hand** user receiver pass. 2; 3; 6 not the creator; 7; 4 receiver holds
-/// it; 10 hops at their limit. The value is the hop count after it."
+/// Makes a user a holder of a capability (§6.11.1).
 pub fn hand(register: &mut Register, user: u64, receiver: u64, capability: u64) -> Answer {
     let user = arguments::user(user)?;
     let receiver = arguments::user(receiver)?;

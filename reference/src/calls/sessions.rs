@@ -1,13 +1,11 @@
-//! Sessions: open, check, close.
+//! Sessions: open, check, close (§6.12, §6.13, §6.16).
 
 use super::arguments::{self, need_origin, need_session, need_usable, need_user};
 use crate::refusal::{refuse_if, Answer, AT_LIMIT, NOT_ENTITLED, NO_CHANGE};
 use crate::register::{has, Origin, Register, Session};
 use crate::request::Opening;
 
-/// "**open** session user, `role` or `pass`, number, hour place device. 2; 3;
-/// 4 session already open; 6 not appointed or not a holder; 7; 8; 9; 10 uses
-/// at or above their limit. On a pass, uses rise by one."
+/// Opens a session: refusals by §6.12.1, what is opened and counted by §6.12.2.
 pub fn open(register: &mut Register, asked: &Opening) -> Answer {
     let session = usize::from(arguments::session(asked.session)?);
     let user = arguments::user(asked.user)?;
@@ -34,10 +32,7 @@ pub fn open(register: &mut Register, asked: &Opening) -> Answer {
     Ok(0)
 }
 
-/// "**check** session permission. 2; 3. The value is 1 on a role if the user
-/// is still appointed and the role's authority has the permission; on a pass
-/// if the user holds it, it is not revoked, the clock is in its life and its
-/// authority has the permission; otherwise 0."
+/// Asks for a permission: refusals by §6.13.1, the value by §6.13.2.
 pub fn check(register: &Register, session: u64, permission: u64) -> Answer {
     let session = arguments::session(session)?;
     let permission = arguments::permission(permission)?;
@@ -59,7 +54,7 @@ pub fn check(register: &Register, session: u64, permission: u64) -> Answer {
     Ok(u64::from(yes))
 }
 
-/// "**close** session. 2; 3."
+/// Closes a session (§6.16.1).
 pub fn close(register: &mut Register, session: u64) -> Answer {
     let session = arguments::session(session)?;
     need_session(register, session)?;

@@ -1,4 +1,4 @@
-//! The calls that read the creation tree: amend, revoke, same.
+//! The calls that read lineages: amend, revoke, same (§6.14, §6.15, §6.17).
 
 use super::arguments::{self, need_origin, need_user};
 use crate::refusal::{
@@ -6,12 +6,10 @@ use crate::refusal::{
 };
 use crate::register::{Origin, Register};
 
-/// "2 beyond -65,535 to 65,535".
+/// A change is at most this, up or down (§1.2.1).
 const LARGEST_CHANGE: u64 = 65_535;
 
-/// "**amend** user pass change. 2 beyond -65,535 to 65,535; 3; 6 not the
-/// creator; 7; 4 change 0; 10 the use limit would fall below 0; 11 it would
-/// pass the origin's. Uses made stay. ... The value is the limit."
+/// Changes a use limit: refusals by §6.14.1, what is done by §6.14.2.
 pub fn amend(register: &mut Register, user: u64, capability: u64, change: i64) -> Answer {
     let user = arguments::user(user)?;
     let number = arguments::capability(capability)?;
@@ -30,7 +28,7 @@ pub fn amend(register: &mut Register, user: u64, capability: u64, change: i64) -
     Ok(limit as u64)
 }
 
-/// "Every pass below is then cut to the new limit, never raised."
+/// Sets the limit, and lowers those below to it (§6.14.2).
 fn set_use_limit(register: &mut Register, number: u8, limit: u16) {
     register.capabilities[usize::from(number)].use_limit = limit;
     for lower in register.numbers() {
@@ -41,8 +39,8 @@ fn set_use_limit(register: &mut Register, number: u8, limit: u16) {
     }
 }
 
-/// "**revoke** user pass. 2; 3; 6 user created neither it nor any pass on its
-/// climb; 7. Marks it and all below; the value counts those newly marked."
+/// Revokes from a capability downward: refusals by §6.15.1, what is marked by
+/// §6.15.2.
 pub fn revoke(register: &mut Register, user: u64, capability: u64) -> Answer {
     let user = arguments::user(user)?;
     let number = arguments::capability(capability)?;
@@ -55,7 +53,7 @@ pub fn revoke(register: &mut Register, user: u64, capability: u64) -> Answer {
     Ok(mark(register, number))
 }
 
-/// Marks the pass and all below, and counts those newly marked.
+/// Marks from the capability downward, and counts those that were unmarked.
 fn mark(register: &mut Register, number: u8) -> u64 {
     let mut marked = 0;
     for lower in register.numbers() {
@@ -68,8 +66,7 @@ fn mark(register: &mut Register, number: u8) -> u64 {
     marked
 }
 
-/// "**same** pass pass. 2; 3. 1 exactly when the climbs end in roles of one
-/// domain and the authorities are equal."
+/// Compares two capabilities: refusals by §6.17.1, the value by §6.17.2.
 pub fn same(register: &Register, first: u64, second: u64) -> Answer {
     let first = arguments::capability(first)?;
     let second = arguments::capability(second)?;

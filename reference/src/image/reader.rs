@@ -1,5 +1,5 @@
 //! The strict reader of images: record by record, it gives up at the first
-//! fault of the layout or the first number out of its range.
+//! fault of the layout or the first number out of its range (§8.5.2).
 
 use super::REVOKED_MARK;
 use crate::register::{
@@ -7,7 +7,7 @@ use crate::register::{
     PLACES, ROLES, USERS,
 };
 
-/// "bit 15 is clear."
+/// The bit of the field map that is never set (§8.2.5).
 const CLEAR_BIT: u16 = 1 << 15;
 
 /// The bytes of the image that are not read yet.
@@ -15,8 +15,8 @@ struct Reader<'a> {
     rest: &'a [u8],
 }
 
-/// The register which the bytes show, if they have "exactly the layout" and
-/// each number is in its range. The other rules are not asked here.
+/// The register which the bytes show, if they have the layout of §8.2 and no
+/// more, and each number is in its range. The other rules are not asked here.
 pub fn decode(image: &[u8]) -> Option<Register> {
     let mut reader = Reader { rest: image };
     let mut register = Register::fresh();
@@ -36,13 +36,13 @@ impl<'a> Reader<'a> {
         Some(taken)
     }
 
-    /// "High byte first in numbers".
+    /// A number, big-endian (§8.1.1).
     fn number(&mut self, length: usize) -> Option<u64> {
         let bytes = self.take(length)?;
         Some(bytes.iter().fold(0, |number, &byte| number << 8 | u64::from(byte)))
     }
 
-    /// "bit maps have item k at bit k mod 8 (lowest is 0) of byte k/8".
+    /// A map, little-endian (§8.1.2).
     fn map(&mut self, length: usize) -> Option<u64> {
         let bytes = self.take(length)?;
         Some(bytes.iter().rev().fold(0, |map, &byte| map << 8 | u64::from(byte)))
@@ -54,7 +54,7 @@ impl<'a> Reader<'a> {
         (usize::from(byte) < end).then_some(byte)
     }
 
-    /// "map of enrolled users (8), a domain byte each".
+    /// The map of enrolled users, and their domains (§8.2.1).
     fn users(&mut self, register: &mut Register) -> Option<()> {
         register.enrolled = self.map(8)?;
         for (user, domain) in register.domains.iter_mut().enumerate() {
@@ -65,7 +65,7 @@ impl<'a> Reader<'a> {
         Some(())
     }
 
-    /// "map of roles (4), each with ..."
+    /// The map of founded roles, and their records (§8.2.1).
     fn roles(&mut self, register: &mut Register) -> Option<()> {
         let founded = self.map(4)?;
         for (number, role) in register.roles.iter_mut().enumerate() {
@@ -76,8 +76,7 @@ impl<'a> Reader<'a> {
         Some(())
     }
 
-    /// "domain (1), permissions (4), hours (3), places (2), devices (2),
-    /// appointed (8, as a map)".
+    /// A role's record (§8.2.2).
     fn role(&mut self) -> Option<Role> {
         Some(Role {
             founded: true,
@@ -90,7 +89,7 @@ impl<'a> Reader<'a> {
         })
     }
 
-    /// "pass count (2); the passes".
+    /// The count of capabilities, and their records (§8.2.1).
     fn capabilities(&mut self, register: &mut Register) -> Option<()> {
         register.count = self.number(2)? as u16;
         if usize::from(register.count) > CAPABILITIES {
@@ -102,12 +101,8 @@ impl<'a> Reader<'a> {
         Some(())
     }
 
-    /// "A pass is kind, number, creator (1 each), then a 2-byte map as a
-    /// number, then only the fields whose bit is set ...: 0 permissions (4),
-    /// 1 roles (4), 2 holders (8, as a map), 3 first (4), 4 last (4), 5 to 10
-    /// use limit, uses, creation limit, creations, hop limit, hops (2 each),
-    /// 11 hours (3), 12 places (2), 13 devices (2). Bit 14 is the revoked mark
-    /// and has no field; bit 15 is clear."
+    /// A capability's record (§8.2.4): its head, the field map, and the fields
+    /// by their bits and widths (§8.2.5).
     fn capability(&mut self) -> Option<Capability> {
         let origin = self.origin()?;
         let creator = self.small(USERS)?;
@@ -136,9 +131,9 @@ impl<'a> Reader<'a> {
         })
     }
 
-    /// A field is there "exactly when" it is "not zero": absent it is 0, and
-    /// present with the value 0 it is a fault. Read as a number; the holders
-    /// are a map, whose bytes stand the other way round.
+    /// A field: absent it is 0, and present with the value 0 it is a fault
+    /// (§8.2.5). Read as a number; the holders are a map, whose bytes stand the
+    /// other way round.
     fn field(&mut self, map: u16, bit: u8, length: usize) -> Option<u64> {
         if !has(map, bit) {
             return Some(0);
@@ -146,8 +141,8 @@ impl<'a> Reader<'a> {
         self.number(length).filter(|&value| value != 0)
     }
 
-    /// "kind (1: 0 role, 1 pass), number (1)", the number in its range: "roles
-    /// 0 to 31", "passes 0 to 255".
+    /// Kind and number of an origin or target (§8.2.3), the number in the range
+    /// of its kind.
     fn origin(&mut self) -> Option<Origin> {
         match self.small(2)? {
             0 => self.small(ROLES).map(Origin::Role),
@@ -155,7 +150,7 @@ impl<'a> Reader<'a> {
         }
     }
 
-    /// "map of open sessions (8), each with ..."
+    /// The map of open sessions, and their records (§8.2.1).
     fn sessions(&mut self, register: &mut Register) -> Option<()> {
         let open = self.map(8)?;
         for (number, session) in register.sessions.iter_mut().enumerate() {
@@ -166,8 +161,7 @@ impl<'a> Reader<'a> {
         Some(())
     }
 
-    /// "user (1), kind (1: 0 role, 1 pass), number (1), hour, place, device (1
-    /// each)."
+    /// A session's record (§8.2.3).
     fn session(&mut self) -> Option<Session> {
         Some(Session {
             active: true,

@@ -3,7 +3,7 @@
 
 use reference::{apply, parse, well_formed, Answer, Register};
 
-/// The input of the document's listing.
+/// The input of the listing (§12.3.1).
 pub const LISTING: &str = "\
 enrol 3 0
 found 1 0 16777215 65535 65535
@@ -19,7 +19,7 @@ revoke 3 0
 check 5 4
 ";
 
-/// The output of the document's listing.
+/// The output of the listing.
 pub const LISTED: &str = "\
 ok 0
 ok 0
@@ -120,8 +120,8 @@ pub fn sample() -> Register {
     ])
 }
 
-/// A chain of 256 passes, each the origin of the next, in which every field is
-/// set: 64 users, 32 roles and 64 sessions are there as well.
+/// A chain of 256 capabilities, each the origin of the next, in which every
+/// field is set: 64 users, 32 roles and 64 sessions are there as well.
 pub fn longest_chain() -> Register {
     let mut register = after(&["clock 1"]);
     let mut play = |line: String| accept_all(&mut register, &[&line]);

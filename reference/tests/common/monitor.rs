@@ -1,6 +1,6 @@
-//! A list of calls with the claims of the mission's third demand, asserted at
-//! every step. The derivation is the test's own: kept from the start and from
-//! the accepted creates, and never read off the register after that.
+//! A list of calls with the guarantee over lists (§7.2), asserted at every
+//! step. The derivation is the test's own (§7.1.3): taken from the start and
+//! from the accepted creates, and never read off the register after that.
 
 use reference::register::has;
 use reference::{apply, apply_trusted, well_formed, Answer, Capability};
@@ -16,19 +16,19 @@ pub struct Tally {
     pub accepted: [u64; 17],
     /// Refusals, by their number.
     pub refused: [u64; 17],
-    /// Revokes that marked more than one pass.
+    /// Revokes that marked more than one capability.
     pub wide_revokes: u64,
-    /// Revokes with a pass below that was marked before.
+    /// Revokes with a capability below that was marked before.
     pub partial_revokes: u64,
     /// Checks changed by revokes.
     pub changed_checks: u64,
-    /// Checks with the value 1 on a pass that has a pass as origin.
+    /// Checks with the value 1 on a capability derived from another one.
     pub deep_yes: u64,
-    /// The longest climb.
+    /// The longest lineage.
     pub depth: usize,
 }
 
-/// The register and the derivation of its passes.
+/// The register and the derivation of its capabilities.
 pub struct Monitor {
     pub register: Register,
     origins: Vec<Origin>,
@@ -43,14 +43,13 @@ impl Monitor {
         monitor
     }
 
-    /// "an accepted load starts the list anew from its image".
+    /// After an accepted load (§7.1.2).
     pub fn load(&mut self, register: Register) {
         self.register = register;
         self.restart();
     }
 
-    /// "A pass is cut from the origin that its accepted create named or,
-    /// without one in the list, that the start shows."
+    /// Takes the derivation from what the register shows (§7.1.3).
     fn restart(&mut self) {
         let count = usize::from(self.register.count);
         let passes = &self.register.capabilities[..count];
@@ -96,7 +95,8 @@ impl Monitor {
         assert_eq!(marks(before), marks(&self.register), "{request:?}");
     }
 
-    /// The passes above this one by the derivation, and the role at the end.
+    /// The capabilities above this one by the derivation, and the role at the
+    /// end.
     fn above(&self, number: usize) -> (Vec<usize>, usize) {
         match self.origins[number] {
             Origin::Role(role) => (Vec::new(), usize::from(role)),
@@ -108,7 +108,7 @@ impl Monitor {
         }
     }
 
-    /// The authority, by the document's sentence.
+    /// The authority, worked out again (§3.2.1, §3.2.2).
     fn authority(&self, number: usize) -> u32 {
         let capability = &self.register.capabilities[number];
         let lent = (0..32).filter(|role| capability.lent >> role & 1 == 1);
@@ -117,8 +117,8 @@ impl Monitor {
         })
     }
 
-    /// The rules are kept; what is derived lies within what it is derived
-    /// from, directly and through others; climbs end in time.
+    /// The rules are kept (§7.2.1); what is derived lies within what it is
+    /// derived from, directly and through others (§7.2.2); lineages end in time.
     fn assert_claims(&mut self) {
         assert!(well_formed(&self.register));
         assert_eq!(self.origins.len(), usize::from(self.register.count));
@@ -146,8 +146,7 @@ impl Monitor {
         assert_eq!(lower.devices & !role.devices, 0);
     }
 
-    /// The climb is the derivation; from pass n it reaches a founded role in
-    /// at most n + 1 steps.
+    /// The lineage is the derivation, and no longer than §7.2.3 says.
     fn assert_lineage(&self, number: usize, uppers: &[usize], role: usize) {
         let lineage = self.register.lineage(number as u8);
         let reached: Vec<usize> = lineage.capabilities.iter().map(|&n| n.into()).collect();
@@ -157,9 +156,8 @@ impl Monitor {
         assert!(reached.len() <= number + 1);
     }
 
-    /// Every check by its claim: yes exactly when the user holds the pass and,
-    /// for every pass on the climb and the role, the permission is carried,
-    /// none is revoked and all are in life.
+    /// Every check against §7.2.4: yes exactly if the user holds the capability
+    /// and all on its lineage, with the role at the end, grant the permission.
     fn assert_checks(&mut self) {
         let checks = all_checks(&self.register);
         for (session, answers) in self.register.sessions.iter().zip(&checks) {
@@ -179,7 +177,7 @@ impl Monitor {
         }
     }
 
-    /// Whether this is a pass cut from a pass.
+    /// Whether this is a capability derived from another one.
     fn is_deep(&self, on: Origin) -> bool {
         let Origin::Capability(number) = on else {
             return false;
@@ -196,8 +194,8 @@ impl Monitor {
         }
     }
 
-    /// The permissions which the third demand promises to the user of a
-    /// session on this pass.
+    /// The permissions that §7.2.4 gives to the user of a session on this
+    /// capability.
     fn carried(&self, number: usize, user: u8) -> u32 {
         let (uppers, role) = self.above(number);
         let mut carried = self.register.roles[role].permissions;
@@ -215,9 +213,8 @@ impl Monitor {
         }
     }
 
-    /// An accepted revoke marks exactly the unmarked passes from the named one
-    /// downward, and its value is their number; the checks that it changes are
-    /// exactly the yes answers of the sessions on those.
+    /// An accepted revoke against §7.2.5: the marks, their number, all that must
+    /// stay, and the checks that it turns to no.
     fn revoked(&mut self, named: usize, value: u64, before: &Register) {
         let downward = |n: &usize| *n == named || self.above(*n).0.contains(&named);
         let all: Vec<usize> = (0..self.origins.len()).filter(downward).collect();
