@@ -69,7 +69,7 @@ fn numbers_have_the_high_byte_first_and_maps_the_low_bit_first() {
     image.extend([0, 0, 2, 0, 5, 128, 0, 0, 1]); // role 17, domain, permissions
     image.extend([1, 2, 3, 1, 2, 3, 4]); // hours, places, devices
     image.extend([0, 2, 0, 0, 0, 0, 0, 0]); // appointed
-    image.extend([0, 0]); // no pass
+    image.extend([0, 0]); // no capability
     image.extend([0, 0, 0, 0, 0, 0, 0, 128]); // session 63
     image.extend([9, 0, 17, 0, 1, 2]);
     assert_eq!(load(&image), Ok(register.clone()));
@@ -176,8 +176,8 @@ fn random_bytes_seldom_are_an_image() {
     }
 }
 
-/// User 0 and role 0 with all permissions and masks; one pass with the map of
-/// fields and the bytes of fields given.
+/// User 0 and role 0 with all permissions and masks; one capability with the
+/// map of fields and the bytes of fields given.
 fn one_capability(kind: u8, number: u8, creator: u8, map: u16, fields: &[u8]) -> Vec<u8> {
     let mut image = vec![0, 0, 0, 0];
     image.extend([1, 0, 0, 0, 0, 0, 0, 0, 0]);
@@ -256,7 +256,7 @@ fn numbers_out_of_range_in_a_capability() {
     assert!(!loads(&one_capability(0, 0, 64, 0, &[])));
 }
 
-/// 257 passes would have the right length, but are too many.
+/// 257 capabilities would have the right length, but are too many.
 #[test]
 fn the_count_is_at_most_256() {
     let with = |count: u16| {

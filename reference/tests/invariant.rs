@@ -11,8 +11,8 @@ use reference::{Capability, Origin, Register, Request};
 /// A name and a change to the register of [`rich`].
 type Edit = (&'static str, fn(&mut Register));
 
-/// The sample with role 5, which nobody has; with pass 4 on role 0, in which
-/// all is 0; and with sessions 0 on role 2 and 1 on pass 0.
+/// The sample with role 5, which nobody has; with capability 4 on role 0, in
+/// which all is 0; and with sessions 0 on role 2 and 1 on capability 0.
 fn sample_with_sessions() -> Register {
     let mut register = sample();
     let lines = [

@@ -35,7 +35,7 @@ fn image_after_the_listing() -> Vec<u8> {
     image.extend([0, 0, 0, 0, 17]); // its domain and permissions
     image.extend([255, 255, 255, 255, 255, 255, 255]); // its masks
     image.extend([8, 0, 0, 0, 0, 0, 0, 0]); // appointed: user 3
-    image.extend([0, 1]); // one pass
+    image.extend([0, 1]); // one capability
     image.extend([0, 1, 3]); // on role 1, by user 3
     image.extend([0b0111_1110, 0b1111_0101]); // revoked, and the fields there
     image.extend([0, 0, 0, 16]); // own permissions
@@ -45,7 +45,7 @@ fn image_after_the_listing() -> Vec<u8> {
     image.extend([0, 1, 0, 1, 0, 1]); // creation limit, hop limit, hops
     image.extend([255, 255, 255, 255, 255, 255, 255]); // masks
     image.extend([32, 0, 0, 0, 0, 0, 0, 0]); // session 5
-    image.extend([3, 1, 0, 9, 0, 0]); // user 3 on pass 0 at 9, 0, 0
+    image.extend([3, 1, 0, 9, 0, 0]); // user 3 on capability 0 at 9, 0, 0
     image
 }
 

@@ -77,8 +77,8 @@ fn withdraw_cuts_the_whole_tree() {
     assert_eq!(rest, before);
 }
 
-/// Own permissions of a revoked pass are cut as well, down a chain, and lent
-/// roles stay.
+/// Own permissions of a revoked capability are cut as well, down a chain, and
+/// lent roles stay.
 #[test]
 fn withdraw_cuts_revoked_capabilities_and_keeps_lent_roles() {
     let mut register = sample();

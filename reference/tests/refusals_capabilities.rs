@@ -7,8 +7,8 @@ mod common;
 use common::{accept_all, accepts, perform, refuses, sample, ALL};
 use reference::{Origin, Register};
 
-/// The sample with 256 passes, in which pass 1 has no create, is revoked, out
-/// of life, open to hours 0 to 9 only, and at its creation limit.
+/// The sample with 256 capabilities, in which capability 1 has no create, is
+/// revoked, out of life, open to hours 0 to 9 only, and at its creation limit.
 fn refusing_register() -> Register {
     let mut register = sample();
     let filler = format!("create 3 role 1 0 0 0 0 0 0 0 0 {ALL}");
@@ -163,7 +163,7 @@ fn lend_in_order() {
     refuses(&register, "lend 0 2 4294967295", 6);
     refuses(&register, "lend 2 2 4294967295", 7);
     refuses(&register, "lend 2 2 0", 7);
-    refuses(&register, "lend 1 1 1", 11); // not lent to pass 0
+    refuses(&register, "lend 1 1 1", 11); // not lent to capability 0
     refuses(&register, "lend 0 0 2", 11); // founded, but another
     refuses(&register, "lend 0 0 8", 11); // not founded
     refuses(&register, "lend 0 0 5", 11); // user 0 is appointed to role 2 too

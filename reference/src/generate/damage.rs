@@ -43,8 +43,8 @@ fn extend(random: &mut Random, image: &mut Vec<u8>) {
     }
 }
 
-/// Changes one field of the register to another number, or moves a pass to
-/// another origin.
+/// Changes one field of the register to another number, or moves a capability
+/// to another origin.
 pub fn damage_register(random: &mut Random, register: &mut Register) {
     match random.below(16) {
         0 => register.clock = number(random, register.clock.into()) as u32,
@@ -71,8 +71,8 @@ pub fn damage_register(random: &mut Random, register: &mut Register) {
     }
 }
 
-/// A pass gets another pass as its origin, and the counts of creations go with
-/// it.
+/// A capability gets another capability as its origin, and the counts of
+/// creations go with it.
 fn move_capability(random: &mut Random, register: &mut Register) {
     let count = u64::from(register.count).min(256);
     let moved = random.below(count) as usize;

@@ -37,7 +37,7 @@ impl Draw<'_> {
         self.random.below(self.profile.permissions)
     }
 
-    /// A pass, more often a late one, and seldom one that is not there.
+    /// A capability, more often a late one, and seldom one that is not there.
     pub fn capability(&mut self) -> u64 {
         let count = u64::from(self.register.count);
         match self.random.below(12) {
@@ -48,8 +48,8 @@ impl Draw<'_> {
         }
     }
 
-    /// A pass that lacks something, the last one in half of the cases; if none
-    /// is drawn so, any pass.
+    /// A capability that lacks something, the last one in half of the cases; if
+    /// none is drawn so, any capability.
     pub fn lacking(&mut self, lacks: impl Fn(&Capability) -> bool) -> u64 {
         let open = |number: &u8| {
             let capability = self.register.capability(*number);
@@ -81,7 +81,7 @@ impl Draw<'_> {
         mask & self.register.enrolled
     }
 
-    /// Mostly the creator of the pass.
+    /// Mostly the creator of the capability.
     pub fn creator(&mut self, capability: u64) -> u64 {
         match self.register.capabilities.get(capability as usize) {
             Some(kept) if !self.random.chance(1, 16) => u64::from(kept.creator),
@@ -89,7 +89,7 @@ impl Draw<'_> {
         }
     }
 
-    /// Mostly one who is appointed to the role or holds the pass.
+    /// Mostly one who is appointed to the role or holds the capability.
     pub fn member(&mut self, origin: Origin) -> u64 {
         let member = self.random.bit(self.register.members(origin));
         match member {
@@ -136,9 +136,9 @@ impl Draw<'_> {
         }
     }
 
-    /// Where to create or open: mostly a pass of which somebody can make use,
-    /// the one with the longest climb or a late one; otherwise a role, or any
-    /// pass.
+    /// Where to create or open: mostly a capability of which somebody can make
+    /// use, the one with the longest lineage or a late one; otherwise a role,
+    /// or any capability.
     pub fn origin(&mut self, usable: impl Fn(&Register, u8) -> bool) -> Origin {
         let fits = |number: &u8| {
             let capability = self.register.capability(*number);
@@ -160,7 +160,7 @@ impl Draw<'_> {
         }
     }
 
-    /// The pass with the longest climb, the last one of these.
+    /// The capability with the longest lineage, the last one of these.
     fn deepest(&self, numbers: &[u8]) -> u8 {
         let depth = |number: &&u8| self.register.lineage(**number).capabilities.len();
         numbers.iter().max_by_key(depth).copied().unwrap_or(0)
@@ -182,7 +182,7 @@ impl Draw<'_> {
         (start, end)
     }
 
-    /// The bounds of the pass from above, if it is there.
+    /// The bounds of the capability from above, if it is there.
     pub fn bounds_above(&self, capability: u64) -> Bounds {
         let kept = self.register.capabilities.get(capability as usize);
         let origin = kept.map_or(Origin::default(), |kept| kept.origin);

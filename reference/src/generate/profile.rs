@@ -15,8 +15,8 @@ pub struct Profile {
     pub permissions: u64,
     /// In this many of 1000 requests one argument is replaced by any number.
     pub wild: u64,
-    /// Of 16 limits, lives and masks of new passes so many are narrower than
-    /// the origin's: the more, the sooner a climb can go no deeper.
+    /// Of 16 limits, lives and masks of new capabilities so many are narrower
+    /// than the origin's: the more, the sooner a lineage can go no deeper.
     pub narrow: u64,
     /// The weight of each call, in the order of [`crate::request::WORDS`].
     pub weights: [u64; 17],
@@ -47,8 +47,8 @@ impl Profile {
         }
     }
 
-    /// As small, with seldom a narrower limit, and most new passes allowed and
-    /// handed on before the next one is made: long chains.
+    /// As small, with seldom a narrower limit, and most new capabilities
+    /// allowed and handed on before the next one is made: long chains.
     pub fn deep() -> Profile {
         Profile {
             narrow: 1,

@@ -87,8 +87,8 @@ fn add_capabilities(random: &mut Random, register: &mut Register) {
     }
 }
 
-/// A role, or a pass with a creation left; in `depth` of 8 cases a pass is
-/// tried first, a late one.
+/// A role, or a capability with a creation left; in `depth` of 8 cases a
+/// capability is tried first, a late one.
 fn origin(random: &mut Random, register: &Register, depth: u64) -> Origin {
     let free = |number: &u8| {
         let capability = register.capability(*number);
@@ -102,7 +102,7 @@ fn origin(random: &mut Random, register: &Register, depth: u64) -> Origin {
     Origin::Role(random.pick(&roles(register)))
 }
 
-/// A pass within the bounds of its origin.
+/// A capability within the bounds of its origin.
 fn capability(random: &mut Random, register: &Register, origin: Origin) -> Capability {
     let bounds = register.bounds(origin);
     let (first, last) = life(random, &bounds);
@@ -180,7 +180,7 @@ fn add_sessions(random: &mut Random, register: &mut Register) {
     }
 }
 
-/// A session of any user on any role or pass, if that admits a context.
+/// A session of any user on any role or capability, if that admits a context.
 fn session(random: &mut Random, register: &Register) -> Option<Session> {
     let user = random.bit(register.enrolled)? as u8;
     let roles = roles(register);

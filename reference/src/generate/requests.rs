@@ -246,7 +246,7 @@ impl Draw<'_> {
         Request::Amend { user: self.creator(capability), capability, change }
     }
 
-    /// By the creator of any pass on the climb, or by anybody.
+    /// By the creator of any capability on the lineage, or by anybody.
     fn revoke(&mut self) -> Request {
         let capability = self.revocable();
         if self.random.chance(1, 8) || capability >= u64::from(self.register.count) {
@@ -257,7 +257,8 @@ impl Draw<'_> {
         Request::Revoke { user: self.creator(upper), capability }
     }
 
-    /// A pass on the climb from the pass of an open session, or any pass.
+    /// A capability on the lineage from the capability of an open session, or
+    /// any capability.
     fn revocable(&mut self) -> u64 {
         let session = self.session(true) as usize;
         let on = self.register.sessions.get(session).map(|session| session.on);

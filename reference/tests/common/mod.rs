@@ -86,10 +86,11 @@ pub fn accepts(register: &Register, line: &str, value: u64) {
 /// has 0 and 6, and user 3; role 2 (domain 0) has hours 0 to 9, place 0 and
 /// device 0, no permission, and user 0. The clock is 10.
 ///
-/// Pass 0 is user 0's on role 0: life 5 to 100, limits 4 each, own permissions
-/// 0 and 4, held by user 1. Pass 1 is user 1's on pass 0: life 5 to 50, limits
-/// 3, 2 and 1, own permission 0, held by user 2. Pass 2 is user 2's on pass 1
-/// with the same life and limits 1. Pass 3 is user 3's on role 1.
+/// Capability 0 is user 0's on role 0: life 5 to 100, limits 4 each, own
+/// permissions 0 and 4, held by user 1. Capability 1 is user 1's on capability
+/// 0: life 5 to 50, limits 3, 2 and 1, own permission 0, held by user 2.
+/// Capability 2 is user 2's on capability 1 with the same life and limits 1.
+/// Capability 3 is user 3's on role 1.
 pub fn sample() -> Register {
     after(&[
         "clock 10",

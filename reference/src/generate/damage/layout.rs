@@ -8,16 +8,16 @@ pub const ROLES: usize = 1;
 pub const CAPABILITIES: usize = 2;
 pub const SESSIONS: usize = 3;
 
-/// The widths of a pass's fields, by their bits.
+/// The widths of a capability's fields, by their bits.
 pub const WIDTHS: [usize; 14] = [4, 4, 8, 4, 4, 2, 2, 2, 2, 2, 2, 3, 2, 2];
 /// Kind, number, creator and the map of fields.
 pub const CAPABILITY_HEAD: usize = 5;
 
-/// Users, roles, passes or sessions: what says which are there, and a record
-/// of each.
+/// Users, roles, capabilities or sessions: what says which are there, and a
+/// record of each.
 #[derive(Clone, Debug, PartialEq, Eq)]
 pub struct Section {
-    /// The map; of the passes, their count.
+    /// The map; of the capabilities, their count.
     pub head: Range<usize>,
     pub records: Vec<Range<usize>>,
 }
@@ -53,7 +53,7 @@ impl Cursor<'_> {
         Some(Section { head, records })
     }
 
-    /// The count of passes, and their records.
+    /// The count of capabilities, and their records.
     fn counted(&mut self) -> Option<Section> {
         let head = self.take(2)?;
         let count = u16::from_be_bytes([self.image[head.start], self.image[head.start + 1]]);
@@ -68,12 +68,12 @@ impl Cursor<'_> {
     }
 }
 
-/// The map of fields of a pass's record.
+/// The map of fields of a capability's record.
 pub fn field_map(record: &[u8]) -> u16 {
     u16::from_be_bytes([record[3], record[4]])
 }
 
-/// Where in a pass's record the field of this bit stands, or would stand.
+/// Where in a capability's record the field of this bit stands, or would stand.
 pub fn field_at(record: &[u8], bit: usize) -> usize {
     let map = field_map(record);
     let present = |lower: &usize| map >> lower & 1 == 1;

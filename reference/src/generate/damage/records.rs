@@ -49,7 +49,7 @@ fn swap(random: &mut Random, image: &mut Vec<u8>, records: &[Range<usize>]) {
 
 /// A map is written the other way round: its bytes, the bits in them, or both.
 /// It is that of a section, the appointed users of a role, or the holders of a
-/// pass.
+/// capability.
 fn turn(random: &mut Random, image: &mut [u8], sections: &[Section; 4]) {
     let map = match random.below(5) {
         0 => Some(sections[USERS].head.clone()),
@@ -68,7 +68,7 @@ fn turn(random: &mut Random, image: &mut [u8], sections: &[Section; 4]) {
     }
 }
 
-/// The map of the holders of a pass that has some.
+/// The map of the holders of a capability that has some.
 fn holders(random: &mut Random, image: &[u8], records: &[Range<usize>]) -> Option<Range<usize>> {
     let held = |record: &&Range<usize>| field_map(&image[(*record).clone()]) >> 2 & 1 == 1;
     let records: Vec<Range<usize>> = records.iter().filter(held).cloned().collect();
@@ -134,8 +134,8 @@ fn toggle(map: &mut [u8], set: bool, place: usize) {
     }
 }
 
-/// A bit of a pass's map of fields changes, any of the 16: alone or, in half
-/// of the cases, with the field, which comes as 0 or as another number.
+/// A bit of a capability's map of fields changes, any of the 16: alone or, in
+/// half of the cases, with the field, which comes as 0 or as another number.
 fn change_field(random: &mut Random, image: &mut Vec<u8>, records: &[Range<usize>]) {
     let Some((_, record)) = pick(random, records) else {
         return;
@@ -155,15 +155,15 @@ fn change_field(random: &mut Random, image: &mut Vec<u8>, records: &[Range<usize
     }
 }
 
-/// A pass or session names another kind, role, pass or user: these are the
-/// first three bytes of both.
+/// A capability or session names another kind, role, capability or user: these
+/// are the first three bytes of both.
 fn rename(random: &mut Random, image: &mut [u8], records: &[Range<usize>]) {
     if let Some((_, record)) = pick(random, records) {
         image[record.start + random.below(3) as usize] = small(random);
     }
 }
 
-/// A pass loses all fields, and its origin is any.
+/// A capability loses all fields, and its origin is any.
 fn make_bare(random: &mut Random, image: &mut Vec<u8>, records: &[Range<usize>]) {
     if let Some((_, record)) = pick(random, records) {
         let creator = image[record.start + 2];
