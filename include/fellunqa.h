@@ -2,8 +2,8 @@
  * fellunqa.h: the C entry point of Fellunqa, a register of capabilities ("passes") for payroll bureaus.
  *
  * A register is kept as an image, a string of bytes that the caller stores. One function plays one line on it: it
- * reads the image and the line, and writes the image of the register after the line. The specification (document 01)
- * says what the lines are and what they do; words in quotation marks below are the specification's.
+ * reads the image and the line, and writes the image of the register after the line. docs/SPECIFICATION.md says what
+ * the lines are and what they do; numbers with § below are its paragraphs.
  *
  * To start a fresh register, use FELLUNQA_IMAGE_MIN zero bytes as its image:
  *
@@ -46,44 +46,43 @@ extern "C" {
 #define FELLUNQA_STACK_MAX (256 * 1024)
 
 /*
- * The refusals. "The first that applies is answered"; a call's own come in the order that the specification gives
- * for it. A pass is a capability, a climb its lineage, and the shelf rules are the invariant of the register.
+ * The refusals (§5.2.1). The first that applies is answered (§5.2.2, §11.2.1); a call's own come in the order that §6
+ * gives for it. A capability is a pass in lines.
  */
 enum fellunqa_refusal {
-    /* "a line that yields no request"; any bytes but one line with its line feed */
+    /* the bytes are not one line with its line feed, or it yields no request (§9.1, §11.1.3) */
     FELLUNQA_MALFORMED = 1,
-    /* "a number out of the ranges"; create: "also for first above last"; amend: "beyond -65,535 to 65,535" */
+    /* an argument is out of its range (§5.2.3); create: also if first is above last */
     FELLUNQA_RANGE = 2,
-    /* "a user, role or pass not there, or a session not open, save what enrol, found or open is to make" */
+    /* what the line names is not there: user, role, capability, or open session (§5.2.4) */
     FELLUNQA_MISSING = 3,
-    /* "nothing would change" */
+    /* nothing would change */
     FELLUNQA_UNCHANGED = 4,
-    /* "domains differ (appoint only)" */
+    /* appoint: user and role are of different domains */
     FELLUNQA_DOMAIN = 5,
-    /* create, open: "not appointed or not a holder"; create: "or authority lacks create"; allow, lend, hand, amend:
-     * "not the creator"; revoke: "user created neither it nor any pass on its climb" */
+    /* create, open: the user is not appointed to the role, or does not hold the capability; create: the origin lacks
+     * permission 0; allow, lend, hand, amend: the user is not its creator; revoke: nor the creator of one above it */
     FELLUNQA_FORBIDDEN = 6,
-    /* "the pass named is revoked; a role never is" */
+    /* the capability is revoked */
     FELLUNQA_REVOKED = 7,
-    /* create: "origin's life excludes the clock"; open: the life of the pass does */
+    /* create, open: the clock is outside the life of the capability */
     FELLUNQA_EXPIRED = 8,
-    /* create: "context not admitted by the origin"; open: by the role or pass */
+    /* create, open: the role or capability does not admit the context */
     FELLUNQA_CONTEXT = 9,
-    /* create: "origin's creations are at their limit"; hand: "hops at their limit"; open: "uses at or above their
-     * limit"; amend: "the use limit would fall below 0" */
+    /* create: no creations left; hand: no hops left; open: no uses left; amend: the use limit would be negative */
     FELLUNQA_EXHAUSTED = 10,
-    /* create: "life, a limit or a mask exceeds the origin's"; allow, lend: "the mask exceeds what the origin may
-     * give"; amend: the use limit "would pass the origin's" */
+    /* create: life, limit or mask not within the origin's; allow, lend: more than the origin may give; amend: the use
+     * limit would be above the origin's */
     FELLUNQA_EXCEEDS = 11,
-    /* create: "256 passes are there" */
+    /* create: all 256 places are taken */
     FELLUNQA_FULL = 12,
-    /* clock: "below the present clock" */
+    /* clock: the tick is before the clock */
     FELLUNQA_PAST = 13,
-    /* the image is "not exactly the layout", has "a number out of range", or "a shelf rule broken" */
+    /* the image is not that of a register that keeps the rules (§8.5) */
     FELLUNQA_IMAGE = 14,
-    /* "the register handed in breaks a shelf rule"; never answered here, where such an image gets 14 */
+    /* the register breaks a rule (§4); never answered here, where such an image gets 14 */
     FELLUNQA_BROKEN = 15,
-    /* "the area is shorter than the new image and 2 bytes" */
+    /* the area has no room for the length and the new image (§11.2.1) */
     FELLUNQA_ROOM = 16
 };
 
