@@ -1,6 +1,6 @@
 /*
  * The register as SQLite tables, in memory, with prepared statements: check, open, create and revoke as a payroll shop
- * would write them. A negative answer is a refusal of document 01.
+ * would write them. A negative answer is a refusal, by its number of §5.2.1.
  */
 #include <sqlite3.h>
 #include <stdint.h>

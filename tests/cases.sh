@@ -24,7 +24,7 @@ for name in journal cases; do
   count $? "crates/$name/stdout is not what the independent implementation answers"
 done
 
-# each call with its refusals, as document 01 lists them; 15 and 16 no line can meet
+# each call with its refusals, as §6 lists them; 15 and 16 no line can meet
 met() { # CALL NUMBER
   paste -d '\t' crates/cases/stdin crates/cases/stdout | grep -q "^$1 .*	no $2\$"
 }

@@ -156,7 +156,7 @@ short_write() { (trap '' XFSZ; ulimit -f 1; client "$reg" 'enrol 3 0' | cat > /d
 no_room() { filled && refuses 1 'too large' short_write; }
 
 client_checks() { # ROUND
-  check "$1: the listing of document 01" answers crates/journal/stdin crates/journal/stdout
+  check "$1: the listing (§12.3.1)" answers crates/journal/stdin crates/journal/stdout
   check "$1: the stored cases" answers crates/cases/stdin crates/cases/stdout
   check "$1: the example of a deputy" deputy
   check "$1: no lines, a fresh register" empty
