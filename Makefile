@@ -49,4 +49,13 @@ client-installed:
 check-client:
 	bash tests/client.sh
 
+# prints what the file of a register holds
+INSPECT = target/inspect
+
+inspect: $(LIB)
+	mkdir -p target
+	$(CC) $(CFLAGS) -Iinclude -o '$(INSPECT)' examples/inspect.c examples/inspect/*.c '$(LIB)' $(LIBS)
+
+.PHONY: inspect
+
 .PHONY: lib install uninstall client client-installed check-client
