@@ -238,7 +238,7 @@ faults() {
 
 # ---- the texts
 
-# the block ```inspect of the manual is what is printed of the register that the journal in its first line leaves
+# the block ```inspect of the manual: a command, and what it prints of the register that examples/deputy.txt leaves
 manual() {
   awk '$0 == "```" { on = 0 } on { print } $0 == "```inspect" { on = 1 }' docs/MANUAL.md > "$work/block"
   [ "$(head -n 1 "$work/block")" = '$ inspect deputy.image' ] && tail -n +2 "$work/block" | diff - <(inspect "$work/deputy.image")

@@ -83,7 +83,8 @@ static void keep(const struct trial *trial, unsigned number, const char *kind, F
     if (to == NULL)
         abort();
     rewind(from);
-    fwrite(bytes, 1, fread(bytes, 1, sizeof bytes, from), to);
+    size_t length = fread(bytes, 1, sizeof bytes, from);
+    fwrite(bytes, 1, length, to);
     if (fclose(to) != 0)
         abort();
 }

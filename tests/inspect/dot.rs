@@ -15,6 +15,8 @@ enum Token {
 
 const MARKS: [&str; 8] = ["->", "{", "}", "[", "]", "=", ";", ","];
 const KEYWORDS: [&str; 6] = ["strict", "graph", "digraph", "subgraph", "node", "edge"];
+/// The keywords that attributes may follow.
+const DEFAULTS: [&str; 3] = ["graph", "node", "edge"];
 
 /// The token at the front and the rest after it.
 fn token(text: &str) -> Option<(Token, &str)> {
@@ -29,9 +31,15 @@ fn token(text: &str) -> Option<(Token, &str)> {
     let end = text.find(|c: char| !c.is_ascii_alphanumeric() && c != '_').unwrap_or(text.len());
     let (word, rest) = text.split_at(end);
     let first = word.chars().next()?;
-    assert!(!first.is_ascii_digit() || word.chars().all(|c| c.is_ascii_digit()), "{word}: neither word nor numeral");
-    let keyword = KEYWORDS.contains(&word.to_ascii_lowercase().as_str());
-    Some((if keyword { Token::Keyword(word.to_string()) } else { Token::Name(word.to_string()) }, rest))
+    assert!(
+        !first.is_ascii_digit() || word.chars().all(|c| c.is_ascii_digit()),
+        "{word}: neither word nor numeral"
+    );
+    let kind = match KEYWORDS.contains(&word.to_ascii_lowercase().as_str()) {
+        true => Token::Keyword,
+        false => Token::Name,
+    };
+    Some((kind(word.to_string()), rest))
 }
 
 /// Where the string ends, at the next quotation mark. Of escapes it has only the ends of lines.
@@ -39,7 +47,9 @@ fn closing(quoted: &str) -> usize {
     let end = quoted.find('"').expect("a string is not ended");
     assert!(!quoted[..end].contains('\n'), "a string goes over a line's end");
     let escapes = quoted[..end].split('\\').skip(1);
-    escapes.for_each(|rest| assert!(rest.starts_with(['l', 'n', 'r']), "an escape that is none: \\{rest}"));
+    escapes.for_each(|rest| {
+        assert!(rest.starts_with(['l', 'n', 'r']), "an escape that is none: \\{rest}")
+    });
     end
 }
 
@@ -98,7 +108,8 @@ impl Graph {
     }
 
     fn statement(&mut self) {
-        if matches!(self.tokens.get(self.at), Some(Token::Keyword(word)) if ["graph", "node", "edge"].contains(&word.as_str())) {
+        let first = self.tokens.get(self.at);
+        if DEFAULTS.map(|word| Some(Token::Keyword(word.to_string()))).contains(&first.cloned()) {
             self.at += 1;
             assert!(self.is_mark("["), "token {}: a keyword without attributes", self.at);
         } else {

@@ -40,7 +40,9 @@ fn masks(hours: u32, places: u16, devices: u16) -> String {
 fn domains(register: &Register) -> Vec<String> {
     let of = |domain: usize| {
         (0..USERS)
-            .filter(|&user| register.has_user(user as u8) && usize::from(register.domains[user]) == domain)
+            .filter(|&user| {
+                register.has_user(user as u8) && usize::from(register.domains[user]) == domain
+            })
             .fold(0u64, |mask, user| mask | 1 << user)
     };
     let there = (0..DOMAINS).filter(|&domain| of(domain) != 0);
@@ -77,7 +79,10 @@ fn capability(register: &Register, number: u8) -> Block {
 fn session(register: &Register, number: u8) -> String {
     let s = register.sessions[usize::from(number)];
     let on = name(s.on);
-    format!("session {number}: user {} on {on}, hour {}, place {}, device {}", s.user, s.hour, s.place, s.device)
+    format!(
+        "session {number}: user {} on {on}, hour {}, place {}, device {}",
+        s.user, s.hour, s.place, s.device
+    )
 }
 
 fn roles(register: &Register) -> Vec<u8> {
@@ -89,8 +94,11 @@ fn sessions(register: &Register) -> Vec<u8> {
 }
 
 fn below(register: &Register, origin: Origin, level: usize, out: &mut Block) {
-    for number in register.numbers().filter(|&number| register.capability(number).origin == origin) {
-        out.extend(capability(register, number).into_iter().map(|(deeper, line)| (level + deeper, line)));
+    for number in register.numbers().filter(|&number| register.capability(number).origin == origin)
+    {
+        out.extend(
+            capability(register, number).into_iter().map(|(deeper, line)| (level + deeper, line)),
+        );
         below(register, Origin::Capability(number), level + 1, out);
     }
 }
@@ -99,7 +107,10 @@ fn text(register: &Register) -> String {
     let mut out: Block = vec![(0, format!("clock {}", register.clock)), (0, String::new())];
     out.push((0, format!("users ({})", register.enrolled.count_ones())));
     out.extend(domains(register).into_iter().map(|line| (1, line)));
-    out.push((0, format!("\nroles ({}), capabilities ({})", roles(register).len(), register.count)));
+    out.push((
+        0,
+        format!("\nroles ({}), capabilities ({})", roles(register).len(), register.count),
+    ));
     for number in roles(register) {
         out.extend(role(register, number).into_iter().map(|(deeper, line)| (1 + deeper, line)));
         below(register, Origin::Role(number), 2, &mut out);
@@ -134,7 +145,8 @@ fn dot(register: &Register) -> String {
         out += &format!("  \"{from}\" -> \"{to}\";\n");
     }
     for number in sessions(register) {
-        let (from, to) = (name(register.sessions[usize::from(number)].on), format!("session {number}"));
+        let (from, to) =
+            (name(register.sessions[usize::from(number)].on), format!("session {number}"));
         out += &node(&to, &[session(register, number)], ", shape=ellipse");
         out += &format!("  \"{from}\" -> \"{to}\" [style=dotted];\n");
     }
@@ -150,7 +162,8 @@ fn main() {
     };
     for path in &arguments[1..] {
         let bytes = std::fs::read(path).expect("an image");
-        let register = load(&bytes).unwrap_or_else(|refusal| panic!("{path}: refused with {refusal}"));
+        let register =
+            load(&bytes).unwrap_or_else(|refusal| panic!("{path}: refused with {refusal}"));
         std::print!("{}", print(&register));
     }
 }

@@ -10,6 +10,7 @@ fn main() {
     let mut random = Random::new(31);
     for number in 0..count {
         let image = reference::encode(&register(&mut random));
-        std::fs::write(Path::new(&arguments[1]).join(format!("{number}.image")), image).expect("a folder");
+        std::fs::write(Path::new(&arguments[1]).join(format!("{number}.image")), image)
+            .expect("a folder");
     }
 }

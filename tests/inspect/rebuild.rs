@@ -72,10 +72,14 @@ impl Reading {
             };
             register.count += 1;
             self.path.push(Origin::Capability(number(p[0]) as u8));
-        } else if let Some(p) = parts(line, &["session ", ": user ", " on ", ", hour ", ", place ", ", device "]) {
-            let [user, hour, place, device] = [p[1], p[3], p[4], p[5]].map(|word| number(word) as u8);
+        } else if let Some(p) =
+            parts(line, &["session ", ": user ", " on ", ", hour ", ", place ", ", device "])
+        {
+            let [user, hour, place, device] =
+                [p[1], p[3], p[4], p[5]].map(|word| number(word) as u8);
             let on = origin(p[2]);
-            register.sessions[number(p[0]) as usize] = Session { active: true, user, on, hour, place, device };
+            register.sessions[number(p[0]) as usize] =
+                Session { active: true, user, on, hour, place, device };
         } else {
             return false;
         }
@@ -85,7 +89,9 @@ impl Reading {
     /// A line about the role or capability above it.
     fn detail(&mut self, line: &str) -> bool {
         match self.path.last() {
-            Some(&Origin::Role(number)) => role_line(&mut self.register.roles[usize::from(number)], line),
+            Some(&Origin::Role(number)) => {
+                role_line(&mut self.register.roles[usize::from(number)], line)
+            }
             Some(&Origin::Capability(number)) => {
                 capability_line(&mut self.register.capabilities[usize::from(number)], line)
             }
@@ -105,7 +111,12 @@ impl Reading {
     fn counted(&self) -> Vec<usize> {
         let roles = self.register.roles.iter().filter(|role| role.founded).count();
         let sessions = self.register.sessions.iter().filter(|session| session.active).count();
-        vec![self.register.enrolled.count_ones() as usize, roles, self.register.count.into(), sessions]
+        vec![
+            self.register.enrolled.count_ones() as usize,
+            roles,
+            self.register.count.into(),
+            sessions,
+        ]
     }
 }
 
@@ -115,7 +126,8 @@ fn role_line(role: &mut Role, line: &str) -> bool {
     } else if let Some(p) = parts(line, &["appointed users "]) {
         role.appointed = mask(p[0]);
     } else if let Some(p) = parts(line, &["hours ", ", places ", ", devices "]) {
-        (role.hours, role.places, role.devices) = (mask(p[0]) as u32, mask(p[1]) as u16, mask(p[2]) as u16);
+        (role.hours, role.places, role.devices) =
+            (mask(p[0]) as u32, mask(p[1]) as u16, mask(p[2]) as u16);
     } else {
         return false;
     }
@@ -131,7 +143,9 @@ fn capability_line(c: &mut Capability, line: &str) -> bool {
         c.holders = mask(p[0]);
     } else if let Some(p) = parts(line, &["life ", " to "]) {
         (c.first, c.last) = (number(p[0]) as u32, number(p[1]) as u32);
-    } else if let Some(p) = parts(line, &["uses ", " of ", ", creations ", " of ", ", hops ", " of "]) {
+    } else if let Some(p) =
+        parts(line, &["uses ", " of ", ", creations ", " of ", ", hops ", " of "])
+    {
         let n: Vec<u16> = p.iter().map(|word| number(word) as u16).collect();
         (c.uses, c.use_limit, c.creations) = (n[0], n[1], n[2]);
         (c.creation_limit, c.hops, c.hop_limit) = (n[3], n[4], n[5]);
