@@ -82,7 +82,7 @@ is_expected() { # text|dot IMAGE
   printed "$1" "$2" | diff <(expected "$1" "$2") -
 }
 rebuilt() { inspect "$1" | "$work/rebuild" | cmp - "$1"; }
-grammar() { inspect --dot "$1" | "$work/dot"; }
+grammar() { inspect --dot "$1" > "$work/graph" && "$work/dot" "$work/graph"; }
 graphviz() { inspect --dot "$1" | dot -Tsvg | grep -q '</svg>'; }
 
 # whatever holds of every register
@@ -138,6 +138,9 @@ random() { # COUNT
 
 # ---- images that are not right
 
+zeros() { head -c "$1" /dev/zero; }
+and_a_byte() { cat "$1" && zeros 1; }
+
 # the images with a flipped bit that were printed: there are some, and they are printed as expected
 accepted() { # FOLDER
   local images=("$1"/*.image)
@@ -150,12 +153,20 @@ damage() { # NAME IMAGE STATUS
   ASAN_OPTIONS=detect_leaks=0 "$work/$1" "$2" "$3" "$work/$1.kept"
 }
 
+# of images that break the rules too, all capabilities are printed, and what is named in a graph is in it
+complete() { # FOLDER
+  awk '/^roles / { want[FILENAME] = $NF } / capability [0-9]+: created/ { got[FILENAME]++ }
+    END { for (f in want) if (want[f] != "(" got[f] + 0 ")") { print f ": not all capabilities"; bad = 1 } exit bad }' "$1"/*.text &&
+    "$work/dot" "$1"/*.dot
+}
+
 damaged() {
   check 'compiling with the library' build_damage damaged "$LIB" "${libs[@]}"
   check 'cut and damaged images' damage damaged "$work/bakery-month.image" 3
   check 'damaged images that are accepted' accepted "$work/damaged.kept"
-  check 'compiling with a library that accepts everything' build_damage unasked "$stored/accept.c"
+  check 'compiling with a library that accepts all' build_damage unasked "$stored/accept.c"
   check 'cut and damaged images, where the library accepts all' damage unasked "$work/bakery-month.image" 4
+  check 'damaged images that are printed then' complete "$work/unasked.kept"
 }
 
 # inspect ends with this status, says these words on one line and prints nothing
@@ -173,21 +184,20 @@ refuses_bytes() { # COMMAND..: prints the bytes
   "$@" > "$work/bytes"
   refuses 3 "^inspect: $work/bytes: .* damaged$" inspect "$work/bytes"
 }
-zeros() { head -c "$1" /dev/zero; }
-and_a_byte() { cat "$1" && zeros 1; }
 
-# a library whose answer to an empty line is neither 1 nor 14
-unknown_answer() {
-  "$cc" "${flags[@]}" -DANSWER=0 -o "$work/answered" examples/inspect.c examples/inspect/*.c "$stored/accept.c" &&
-    refuses 3 damaged "$work/answered" "$work/deputy.image"
+# refused with a library that gives this answer to everything; the real one gives an empty line 1 or 14
+answering() { # ANSWER STATUS WORDS FILE
+  "$cc" "${flags[@]}" -DANSWER="$1" -o "$work/answering" examples/inspect.c examples/inspect/*.c "$stored/accept.c" &&
+    refuses "$2" "$3" "$work/answering" "$4"
 }
 
 not_right() {
   for length in 0 1 25 27 13401 13402 13403 100000; do check "$length zero bytes" refuses_bytes zeros "$length"; done
+  check 'a text' refuses_bytes cat examples/deputy.txt
   check 'a byte after the image' refuses_bytes and_a_byte "$work/deputy.image"
   check 'a byte after a full image' refuses_bytes and_a_byte "$work/full.image"
-  check 'a text' refuses_bytes cat examples/deputy.txt
-  check 'a library with another answer' unknown_answer
+  check 'a byte after the image, where the library accepts all' answering -1 4 'bytes are left over' "$work/bytes"
+  check 'a library with another answer' answering 0 3 damaged "$work/deputy.image"
 }
 
 # ---- options, standard input and faults

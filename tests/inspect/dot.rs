@@ -1,8 +1,7 @@
-//! Holds a graph to a part of Graphviz's grammar: `dot < GRAPH`. Node and edge statements, attribute lists, quoted names and
+//! Holds graphs to a part of Graphviz's grammar: `dot GRAPH..`. Node and edge statements, attribute lists, quoted names and
 //! plain words; no subgraphs, ports, HTML or comments. Beyond the grammar: every node is declared, once and before its edges,
 //! and all but roles are reached by one edge. Prints how many nodes and edges there are. Built by tests/inspect.sh.
 use std::collections::BTreeMap;
-use std::io::Read;
 
 #[derive(Clone, Debug, PartialEq)]
 enum Token {
@@ -144,13 +143,21 @@ impl Graph {
     }
 }
 
-fn main() {
-    let mut text = String::new();
-    std::io::stdin().read_to_string(&mut text).expect("text");
+/// The graph of a file, which has passed.
+fn checked(path: &str) -> Graph {
+    let text = std::fs::read_to_string(path).expect("a graph");
     let mut graph = Graph { tokens: tokens(&text), at: 0, nodes: BTreeMap::new(), edges: 0 };
     graph.graph();
     for (name, edges) in &graph.nodes {
         assert_eq!(*edges, usize::from(!name.starts_with("role ")), "{name}: edges that reach it");
     }
-    println!("{} nodes, {} edges", graph.nodes.len(), graph.edges);
+    graph
+}
+
+fn main() {
+    for path in std::env::args().skip(1) {
+        let graph = std::panic::catch_unwind(|| checked(&path));
+        let graph = graph.unwrap_or_else(|_| panic!("{path}: not a graph of a register"));
+        println!("{path}: {} nodes, {} edges", graph.nodes.len(), graph.edges);
+    }
 }

@@ -23,7 +23,7 @@ function create(n,  r, depth, limits) {
   r = n % 32
   depth = int(n / 32)
   limits = (60000 - 1000 * depth - n) " " (900 - 50 * depth - r) " " (64 - depth)
-  print "create", creator(n), (n < 32 ? "role " r : "pass " n - 32), context(r), depth, whole(4294967295 - 1000 * n), limits, \
+  print "create", creator(n), (n < 32 ? "role " r : "pass " (n - 32)), context(r), depth, whole(4294967295 - 1000 * n), limits, \
     hours(r, 2 + depth), places(r, 1 + depth), devices(r, 2 + depth)
   print "allow", creator(n), n, whole(depth < 6 ? 1 + bit(1 + r % 31) : 1)
   if (depth < r % 5) print "lend", creator(n), n, whole(bit(r))
