@@ -52,9 +52,9 @@ static const char *const texts[STATEMENTS] = {
         " WHEN (SELECT max(id) FROM pass) >= 255 THEN 12"
         " ELSE 0 END FROM pass p WHERE p.id = ?2",
     [INSERT] =
-        "INSERT INTO pass (id, origin, creator, permissions, first, last, use_limit, uses, creation_limit, creations,"
-        " hop_limit, hours, places, devices, revoked)"
-        " SELECT max(id) + 1, ?2, ?1, 0, ?6, ?7, ?8, 0, ?9, 0, ?10, ?11, ?12, ?13, 0 FROM pass",
+        "INSERT INTO pass (id, origin, creator, permissions, first, last, use_limit, creation_limit, hop_limit,"
+        " uses, creations, hours, places, devices, revoked)"
+        " SELECT max(id) + 1, ?2, ?1, 0, ?6, ?7, ?8, ?9, ?10, 0, 0, ?11, ?12, ?13, 0 FROM pass",
     [COUNT] = "UPDATE pass SET creations = creations + 1 WHERE id = ?2",
     /* user, pass */
     [NAMED] = "SELECT revoked FROM pass WHERE id = ?2",
