@@ -1,11 +1,12 @@
--- What a played journal leaves in an output with room, and where a transfer stops.
+-- What a played journal leaves in an output with room, where a transfer stops, and what an argument asks for.
 use mathlib.Core.Path.{_≡_, refl, sym, ap, subst, _∙_}
+use mathlib.Core.Bool.{true, false}
 use mathlib.Core.List.{List}
 use Prim.Native.Nat.{ℕ, _+_, _-_, _≤_}
 use native.Mathlib.Omega.{arith}
 use lib.ListN.{length, take}
 use lib.Seq.{length-take-le}
-use Rattle.masks.specs.Bytes.{front}
+use Rattle.masks.specs.Bytes.{front, bytes, sameBytes}
 use Rattle.model.specs.declared.Register.{Register}
 use Rattle.model.specs.State.{fresh}
 use Rattle.model.specs.Journal.{journal, program}
@@ -16,6 +17,8 @@ use Rattle.terminal.specs.declared.transfer.End.the-variants.{Ended, Who
 use Rattle.terminal.specs.declared.transfer.Moved.{Moved}
 use Rattle.terminal.specs.declared.transfer.Moved.the-variants.{Bytes, Stop}
 use Rattle.terminal.specs.declared.transfer.Transferred.{Transferred}
+use Rattle.terminal.specs.declared.options.Wish.the-variants.{Help, Version, Unknown}
+use Rattle.terminal.specs.Options.{asked}
 use Rattle.terminal.specs.Transfer.{Ends, Moves, Transfers}
 use Rattle.terminal.specs.Played.{Replies, Answers}
 
@@ -59,3 +62,14 @@ pub answered : (end : End) → (end ≡ Failed → ⊥) → (input before after 
 answered Ended h input before after t r = r
 answered Whole h input before after t r = r
 answered Failed h input before after t r = absurd (h refl)
+
+-- what an argument asks for, by the test that finds it
+pub asks-help : (word : List ℕ) → sameBytes word (bytes "--help") ≡ true → Help ≡ asked word
+asks-help word e = rw e
+
+module _ (word : List ℕ) (no-help : sameBytes word (bytes "--help") ≡ false) where
+  pub asks-version : sameBytes word (bytes "--version") ≡ true → Version ≡ asked word
+  asks-version e = rw (no-help, e)
+
+  pub asks-nothing : sameBytes word (bytes "--version") ≡ false → Unknown ≡ asked word
+  asks-nothing e = rw (no-help, e)

@@ -1,3 +1,4 @@
--- What the program makes of the bytes that it reads, and how a transfer stops.
+-- What the program makes of the bytes that it reads, how a transfer stops, and what an argument asks for.
+pub mod Options
 pub mod Played
 pub mod Transfer

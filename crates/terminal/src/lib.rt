@@ -6,12 +6,15 @@ ghost use lib.ListN.{length, take};
 ghost use Rattle.masks.specs.Bytes.{front};
 ghost use Rattle.model.specs.Journal.{program};
 ghost use Rattle.terminal.specs.Played.{Replies, Plays};
+use libc::STDERR_FILENO;
 use libc::STDOUT_FILENO;
+use options::Wish;
 use transfer::End;
 use transfer::Transferred;
 use transfer::drain;
 use transfer::fill;
 
+pub mod options;
 pub mod transfer;
 
 // What was read and what was written.
@@ -72,5 +75,28 @@ pub fn play(input: &mut [u8; 32769], out: &mut [u8; 163840]) -> Played
     Played {
         input: read,
         output: written,
+    }
+}
+
+// Tells what was asked for in place of a journal. Arguments that are not known are told on standard error, as a fault is.
+pub fn inform(wish: Wish) {
+    match wish {
+        Wish::Help => finish(drain(
+            b"usage: fellunqa-journal < LINES
+       fellunqa-journal --help | --version
+
+Plays the lines of standard input, in their order, on a fresh register of capabilities, and answers each with a line:
+'ok' and a value, or 'no' and the number of a refusal. fellunqa-journal(1) has the lines, the refusals and the limits.
+A fault is one line on standard error; the status is 0 all the same.
+",
+        )),
+        Wish::Version => finish(drain(b"fellunqa-journal 0.1.0\n")),
+        Wish::Journal => {}
+        Wish::Unknown => {
+            io::write_all(
+                STDERR_FILENO,
+                b"journal: unknown arguments; --help tells the use\n",
+            );
+        }
     }
 }
