@@ -1,6 +1,6 @@
 #!/usr/bin/env bash
 # Holds the examples of the manual, the specification and the man page to the programs. The blocks ```journal of docs/MANUAL.md
-# are one journal, and so are those of docs/SPECIFICATION.md and the lines between .EX and .EE of docs/journal.1: each line is
+# are one journal, and so are those of docs/SPECIFICATION.md and the lines between .EX and .EE of docs/fellunqa-journal.1: each line is
 # followed by '-> ' and its answer. All are played through the proved journal program and through the independent
 # implementation; each answer shown counts one.
 # The blocks ```entry are played through the independent implementation's entry point. `rt check journal` or `rt ci` builds
@@ -80,11 +80,11 @@ blocks docs/MANUAL.md '```journal' '```' | pairs > "$work/manual"
 blocks docs/SPECIFICATION.md '```journal' '```' | pairs > "$work/specification"
 [ -s "$work/specification" ]
 count $? 'docs/SPECIFICATION.md has no listing'
-blocks docs/journal.1 .EX .EE | sed 's/\\-/-/g' | pairs > "$work/page"
+blocks docs/fellunqa-journal.1 .EX .EE | sed 's/\\-/-/g' | pairs > "$work/page"
 for program in "$journal" "$reference"; do
   hold "$program" "$work/manual" docs/MANUAL.md
   hold "$program" "$work/specification" docs/SPECIFICATION.md
-  hold "$program" "$work/page" docs/journal.1
+  hold "$program" "$work/page" docs/fellunqa-journal.1
 done
 
 for word in $words; do
