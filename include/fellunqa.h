@@ -28,6 +28,17 @@
 #include <stddef.h>
 #include <stdint.h>
 
+/*
+ * The version of this header and of the library installed with it, as a text and as numbers. While the first number is
+ * 0, the second rises with every change of what a line, an answer or an image means, and the third with any other. An
+ * image does not say its version: keep this text beside it, and see CHANGELOG.md before a library of another second
+ * number reads it.
+ */
+#define FELLUNQA_VERSION "0.1.0"
+#define FELLUNQA_VERSION_MAJOR 0
+#define FELLUNQA_VERSION_MINOR 1
+#define FELLUNQA_VERSION_PATCH 0
+
 #ifdef __cplusplus
 extern "C" {
 #endif
