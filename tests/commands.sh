@@ -89,14 +89,14 @@ keep() { # FILE TITLE
   done < "$1"
 }
 
-# runs them; exported variables and the folder go on from block to block, as in a terminal
+# runs them, for two minutes at most; exported variables and the folder go on from block to block, as in a terminal
 run() {
   {
     echo '. "$ENVIRONMENT" && cd "$PWD" && set -eu'
     cat "$work/script"
     echo 'export -p > "$ENVIRONMENT"'
   } > "$work/whole"
-  env -i ENVIRONMENT="$work/environment" sh "$work/whole" < /dev/null > "$work/out" 2> "$work/err"
+  timeout 120 env -i ENVIRONMENT="$work/environment" sh "$work/whole" < /dev/null > "$work/out" 2> "$work/err"
 }
 
 block() { # TEXT STEM
@@ -113,7 +113,7 @@ block() { # TEXT STEM
     return
   fi
   run
-  count $? "$title: the commands end well ($(tail -n 5 "$work/err"))"
+  count $? "$title: the commands end well, within two minutes ($(tail -n 5 "$work/err"))"
   if [ -f "$2.text" ]; then
     diff "$2.text" "$work/out"
     count $? "$title: the commands print what the text shows"
