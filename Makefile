@@ -5,7 +5,7 @@
 #   make install PREFIX=/usr         installs library, header, pkg-config file, the program as fellunqa-journal and its man page;
 #                                    DESTDIR is put before PREFIX
 #   make uninstall PREFIX=/usr       removes them
-#   make client                      builds examples/client.c against the library here
+#   make client                      builds the example client against the library here
 #   make client-installed            builds it against the installed library, found by pkg-config
 #   make check-client                tests library, header, client and installation
 .POSIX:
@@ -53,11 +53,12 @@ uninstall:
 
 client: $(LIB)
 	mkdir -p target
-	$(CC) $(CFLAGS) -Iinclude -o '$(CLIENT)' examples/client.c '$(LIB)' $(LIBS)
+	$(CC) $(CFLAGS) -Iinclude -o '$(CLIENT)' examples/client.c examples/store.c '$(LIB)' $(LIBS)
 
 client-installed:
 	mkdir -p target
-	$(CC) $(CFLAGS) `pkg-config --cflags fellunqa` -o '$(CLIENT)' examples/client.c `pkg-config --libs fellunqa` $(LIBS)
+	$(CC) $(CFLAGS) `pkg-config --cflags fellunqa` -o '$(CLIENT)' examples/client.c examples/store.c \
+		`pkg-config --libs fellunqa` $(LIBS)
 
 check-client:
 	bash tests/client.sh

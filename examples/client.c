@@ -1,42 +1,67 @@
 /*
- * client: keeps one register of capabilities in a file and plays lines on it.
+ * client: plays lines on a register of capabilities that is kept in a file.
  *
- *     client REGISTER-FILE < LINES     lines from standard input
- *     client REGISTER-FILE LINE..      each argument is a line; its line feed is added
- *
- * For each line it prints 'ok VALUE' or 'no NUMBER: MEANING'. Without a register file it starts a fresh register. The
- * register after all lines is written to REGISTER-FILE.new, which is there from the start and keeps other clients out,
- * and then renamed. If anything cannot be read or written, the register file stays as it was, and the answers printed
- * do not count.
- *
- * Exit status: 0 all played and saved, whatever the answers; 1 something could not be read or written; 2 wrong usage;
- * 3 the register file is damaged.
+ * A run is one batch. All lines are read before the register is opened, so that nobody waits for a slow input. Then
+ * they are played, the register is saved once, and only after that are the answers shown: whoever sees an answer can
+ * rely on it through kills and power cuts. A run that ends before it has saved leaves the register as it was; one that
+ * ends between saving and showing leaves all its lines in it. store.h says what holds of the file, and `usage` below
+ * how the program is called.
  */
-#define _POSIX_C_SOURCE 200809L
+#define _XOPEN_SOURCE 700
 
 #include <errno.h>
 #include <fcntl.h>
 #include <inttypes.h>
+#include <signal.h>
 #include <stdio.h>
+#include <stdlib.h>
 #include <string.h>
-#include <unistd.h>
 
 #include <fellunqa.h>
 
-enum status { DONE = 0, FAILED = 1, USAGE = 2, DAMAGED = 3 };
+#include "store.h"
 
-struct store {
-    const char *path;                      /* the register file */
-    char pending[4096];                    /* the path of the file that will take its place */
-    uint8_t image[FELLUNQA_IMAGE_MAX + 1]; /* one byte more than any image, so that a longer file is seen */
-    size_t length;
+enum status { DONE = 0, FAILED = 1, USAGE = 2, DAMAGED = 3, UNSHOWN = 4 };
+
+static const char usage[] =
+    "usage: client [--new] [--] REGISTER-FILE < LINES     the lines of standard input, played after its end\n"
+    "       client [--new] [--] REGISTER-FILE LINE..      each argument is a line; its line feed is added\n"
+    "       client --help                                 shows this\n"
+    "\n"
+    "Plays the lines on the register, saves it, and shows for each line 'ok VALUE' or 'no NUMBER: MEANING'.\n"
+    "With --new it starts a register; there must be nothing of its name. It waits for other clients at work on\n"
+    "registers of the same folder.\n"
+    "\n"
+    "Exit status:\n"
+    "  0  all lines are played, the register is saved, the answers are shown\n"
+    "  1  something could not be read or written; the register is as it was, no line is played\n"
+    "  2  wrong usage\n"
+    "  3  the register file is damaged or is not a register; it is as it was\n"
+    "  4  all lines are played and in the register, but not all answers could be shown, or it is not sure\n"
+    "     that the register outlasts a power cut\n";
+
+struct options {
+    bool help;
+    bool fresh;
+    const char *path;
+    char **lines; /* up to a null pointer; none: they come from standard input */
 };
 
 /* One byte more than any request, so that a longer line gets 1 even where its end is cut off. */
 struct line {
-    uint8_t bytes[FELLUNQA_LINE_MAX + 1];
     size_t length;
+    uint8_t bytes[FELLUNQA_LINE_MAX + 1];
 };
+
+/* The lines of a run: for each a byte with its length, then its bytes. */
+struct batch {
+    size_t count;
+    size_t used;
+    size_t room;
+    uint8_t *bytes;
+};
+
+_Static_assert(FELLUNQA_LINE_MAX + 1 <= UINT8_MAX, "the length of a line must fit into a byte");
 
 static enum status complain(const char *what, const char *why, enum status status)
 {
@@ -74,19 +99,23 @@ static const char *meaning(int64_t refusal)
     return meanings[refusal];
 }
 
-/* Plays one line, keeps the new image if the line is accepted, and prints the answer. */
-static void play(struct store *store, const struct line *line)
+/* ---- gathering the lines */
+
+static enum status keep(struct batch *batch, const struct line *line)
 {
-    uint8_t area[FELLUNQA_AREA_MAX];
-    int64_t answer =
-        fellunqa_apply(store->image, store->length, line->bytes, line->length, area, sizeof area);
-    if (answer < 0) {
-        printf("no %" PRId64 ": %s\n", -answer, meaning(-answer));
-        return;
+    if (batch->room - batch->used < sizeof *line) {
+        size_t room = batch->room + batch->room / 2 + 4096;
+        uint8_t *bytes = room < batch->room ? NULL : realloc(batch->bytes, room);
+        if (bytes == NULL)
+            return complain("the lines", "there is no memory for them", FAILED);
+        batch->bytes = bytes;
+        batch->room = room;
     }
-    store->length = (size_t)area[0] << 8 | area[1];
-    memcpy(store->image, area + 2, store->length);
-    printf("ok %" PRId64 "\n", answer);
+    batch->bytes[batch->used++] = (uint8_t)line->length;
+    memcpy(batch->bytes + batch->used, line->bytes, line->length);
+    batch->used += line->length;
+    batch->count++;
+    return DONE;
 }
 
 static void append(struct line *line, int byte)
@@ -107,137 +136,155 @@ static void read_line(FILE *input, struct line *line)
     }
 }
 
-/* A last line without a line feed is played as it is, so it gets 1. */
-static enum status play_input(struct store *store, FILE *input)
+/* A last line without a line feed is kept as it is, so it gets 1. */
+static enum status gather_input(struct batch *batch, FILE *input)
 {
     struct line line;
-    for (;;) {
+    enum status status = DONE;
+    while (status == DONE) {
         read_line(input, &line);
         if (ferror(input))
             return failed("standard input");
         if (line.length == 0)
             return DONE;
-        play(store, &line);
+        status = keep(batch, &line);
     }
+    return status;
 }
 
-static void play_text(struct store *store, const char *text)
+static enum status gather_text(struct batch *batch, const char *text)
 {
     struct line line = {.length = 0};
     while (*text != '\0')
         append(&line, (unsigned char)*text++);
     append(&line, '\n');
-    play(store, &line);
+    return keep(batch, &line);
 }
 
-static enum status play_all(struct store *store, int count, char **texts)
+static enum status gather(struct batch *batch, char **texts)
 {
     enum status status = DONE;
-    if (count == 0)
-        status = play_input(store, stdin);
-    for (int i = 0; i < count; i++)
-        play_text(store, texts[i]);
-    if (fflush(stdout) != 0 || ferror(stdout))
-        return failed("standard output");
+    if (*texts == NULL)
+        return gather_input(batch, stdin);
+    while (status == DONE && *texts != NULL)
+        status = gather_text(batch, *texts++);
     return status;
 }
 
-/* Makes the file that will take the register file's place. It must not be there, so only one client does this. */
-static enum status reserve(struct store *store)
-{
-    int n = snprintf(store->pending, sizeof store->pending, "%s.new", store->path);
-    if (n < 0 || (size_t)n >= sizeof store->pending)
-        return complain(store->path, "the name is too long", FAILED);
-    int file = open(store->pending, O_WRONLY | O_CREAT | O_EXCL, 0600);
-    if (file < 0 && errno == EEXIST)
-        return complain(store->pending, "another client is at work; if none is, remove this file", FAILED);
-    if (file < 0)
-        return failed(store->pending);
-    close(file);
-    return DONE;
-}
+/* ---- playing them */
 
-/* Reads up to the end of the file, but no more than `size` bytes; the number read, or -1. */
-static ssize_t read_all(int file, uint8_t *bytes, size_t size)
+static enum status report(const struct store *store, const char *path, enum store_status status)
 {
-    size_t length = 0;
-    while (length < size) {
-        ssize_t n = read(file, bytes + length, size - length);
-        if (n == 0)
-            break;
-        if (n > 0)
-            length += (size_t)n;
-        else if (errno != EINTR)
-            return -1;
-    }
-    return (ssize_t)length;
-}
-
-static enum status load(struct store *store)
-{
-    int file = open(store->path, O_RDONLY);
-    if (file < 0 && errno == ENOENT) {
-        memset(store->image, 0, FELLUNQA_IMAGE_MIN); /* a fresh register */
-        store->length = FELLUNQA_IMAGE_MIN;
+    if (status == STORE_DONE)
         return DONE;
-    }
-    if (file < 0)
-        return failed(store->path);
-    ssize_t length = read_all(file, store->image, sizeof store->image);
-    enum status status = length < 0 ? failed(store->path) : DONE;
-    close(file);
-    if (status != DONE)
-        return status;
-    store->length = (size_t)length;
-    if (fellunqa_apply(store->image, store->length, NULL, 0, NULL, 0) == -FELLUNQA_IMAGE)
-        return complain(store->path, "this is not a register, or it is damaged", DAMAGED);
-    return DONE;
+    fprintf(stderr, "client: %s: %s%s%s\n", path, store->fault, store->error == 0 ? "" : ": ",
+            store->error == 0 ? "" : strerror(store->error));
+    return status == STORE_DAMAGED ? DAMAGED : status == STORE_UNSURE ? UNSHOWN : FAILED;
 }
 
-static int write_all(int file, const uint8_t *bytes, size_t length)
+static void play(struct store *store, const struct batch *batch, int64_t *answers)
 {
-    while (length > 0) {
-        ssize_t n = write(file, bytes, length);
-        if (n < 0 && errno != EINTR)
-            return -1;
-        if (n > 0) {
-            bytes += n;
-            length -= (size_t)n;
-        }
+    const uint8_t *at = batch->bytes;
+    for (size_t i = 0; i < batch->count; i++) {
+        answers[i] = store_play(store, at + 1, *at);
+        at += 1 + *at;
     }
-    return 0;
 }
 
-/* Opened anew only now, when nothing more is printed: with standard output closed, it could take its number. */
-static enum status save(const struct store *store)
+static enum status play_and_save(const struct options *options, const struct batch *batch, int64_t *answers)
 {
-    int file = open(store->pending, O_WRONLY);
-    if (file < 0)
-        return failed(store->pending);
-    enum status status = DONE;
-    if (write_all(file, store->image, store->length) != 0 || fsync(file) != 0)
-        status = failed(store->pending);
-    if (close(file) != 0 && status == DONE)
-        status = failed(store->pending);
-    if (status == DONE && rename(store->pending, store->path) != 0)
-        status = failed(store->path);
+    struct store store;
+    enum store_status status = store_open(&store, options->path, options->fresh);
+    if (status == STORE_DONE) {
+        play(&store, batch, answers);
+        status = store_save(&store);
+    }
+    store_close(&store);
+    return report(&store, options->path, status);
+}
+
+static enum status show(const int64_t *answers, size_t count)
+{
+    for (size_t i = 0; i < count; i++) {
+        if (answers[i] < 0)
+            printf("no %" PRId64 ": %s\n", -answers[i], meaning(-answers[i]));
+        else
+            printf("ok %" PRId64 "\n", answers[i]);
+    }
+    if (fflush(stdout) == 0 && !ferror(stdout))
+        return DONE;
+    failed("standard output");
+    return complain("not all answers are shown", "the lines are played and the register is saved", UNSHOWN);
+}
+
+static enum status run(const struct options *options, const struct batch *batch)
+{
+    int64_t *answers = calloc(batch->count + 1, sizeof *answers); /* never of size 0, which may be a null pointer */
+    if (answers == NULL)
+        return complain("the answers", "there is no memory for them", FAILED);
+    enum status status = play_and_save(options, batch, answers);
+    if (status == DONE)
+        status = show(answers, batch->count);
+    free(answers);
     return status;
 }
 
+/* ---- starting */
+
+static enum status read_options(struct options *options, char **words)
+{
+    for (; *words != NULL && **words == '-'; words++) {
+        if (strcmp(*words, "--") == 0) {
+            words++;
+            break;
+        }
+        if (strcmp(*words, "--new") == 0)
+            options->fresh = true;
+        else if (strcmp(*words, "--help") == 0)
+            options->help = true;
+        else
+            return complain(*words, "unknown option; --help shows the usage", USAGE);
+    }
+    options->path = *words;
+    options->lines = words + 1;
+    if (options->help || options->path != NULL)
+        return DONE;
+    return complain("usage", "client [--new] [--] REGISTER-FILE [LINE..]; --help shows more", USAGE);
+}
+
+static enum status help(void)
+{
+    fputs(usage, stdout);
+    return fflush(stdout) == 0 && !ferror(stdout) ? DONE : failed("standard output");
+}
+
+/* If one of them were closed, the register could be opened under its number, and answers or messages go into it. */
+static enum status ask_streams(void)
+{
+    static const char *const names[] = {"standard input", "standard output", "standard error"};
+    for (int i = 0; i < 3; i++)
+        if (fcntl(i, F_GETFD) < 0)
+            return failed(names[i]);
+    return DONE;
+}
+
+/* A pipe that nobody reads and a limit on the size of files are faults to be told, not signals to end by. */
 int main(int argc, char **argv)
 {
-    if (argc < 2)
-        return complain("usage", "client REGISTER-FILE [LINE..]", USAGE);
-    struct store store = {.path = argv[1]};
-    enum status status = reserve(&store);
+    struct options options = {0};
+    struct batch batch = {0};
+    signal(SIGPIPE, SIG_IGN);
+    signal(SIGXFSZ, SIG_IGN);
+    enum status status = read_options(&options, argv + (argc > 0));
+    if (status == DONE)
+        status = ask_streams();
     if (status != DONE)
         return status;
-    status = load(&store);
+    if (options.help)
+        return help();
+    status = gather(&batch, options.lines);
     if (status == DONE)
-        status = play_all(&store, argc - 2, argv + 2);
-    if (status == DONE)
-        status = save(&store);
-    if (status != DONE)
-        unlink(store.pending);
+        status = run(&options, &batch);
+    free(batch.bytes);
     return status;
 }

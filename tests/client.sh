@@ -48,24 +48,24 @@ start() {
 
 answers() { # INPUT EXPECTED
   start
-  client "$reg" < "$1" | numbers | cmp - "$2" && [ "$(ls -A "$work/folder")" = register ]
+  client --new "$reg" < "$1" | numbers | cmp - "$2" && [ "$(ls -A "$work/folder")" = register ]
 }
 
 deputy() {
   start
-  client "$reg" < examples/deputy.txt | cmp - tests/client/deputy.expected
+  client --new "$reg" < examples/deputy.txt | cmp - tests/client/deputy.expected
 }
 
 empty() {
   start
-  client "$reg" < /dev/null | cmp - /dev/null && head -c 26 /dev/zero | cmp - "$reg" && [ "$(stat -c %a "$reg")" = 600 ]
+  client --new "$reg" < /dev/null | cmp - /dev/null && head -c 26 /dev/zero | cmp - "$reg" && [ "$(stat -c %a "$reg")" = 600 ]
 }
 
 # three runs on one file give the answers and the register of one run
 carried() {
   start
-  client "$work/folder/whole" < crates/cases/stdin | numbers > "$work/one" || return 1
-  head -n 40 crates/cases/stdin | client "$reg" > "$work/three" &&
+  client --new "$work/folder/whole" < crates/cases/stdin | numbers > "$work/one" || return 1
+  head -n 40 crates/cases/stdin | client --new "$reg" > "$work/three" &&
     sed -n '41,90p' crates/cases/stdin | client "$reg" >> "$work/three" &&
     tail -n +91 crates/cases/stdin | client "$reg" >> "$work/three" || return 1
   numbers < "$work/three" | cmp - "$work/one" && cmp "$reg" "$work/folder/whole"
@@ -73,7 +73,7 @@ carried() {
 
 arguments() {
   start
-  client "$reg" 'enrol 3 0' 'enrol 3 0' '' $'enrol 4 0\nenrol 5 0' "enrol $(printf '%0200d' 4) 0" 'enrol 4 0' |
+  client --new "$reg" 'enrol 3 0' 'enrol 3 0' '' $'enrol 4 0\nenrol 5 0' "enrol $(printf '%0200d' 4) 0" 'enrol 4 0' |
     numbers | cmp - <(printf 'ok 0\nno 4\nno 1\nno 1\nno 1\nok 0\n')
 }
 
@@ -86,7 +86,7 @@ odd_lines() {
     printf 'enrol 5 0\nenrol 6 0'
   } > "$work/input"
   { echo ok 0; for _ in {1..17}; do echo no 1; done; printf 'ok 0\nno 1\n'; } > "$work/expected"
-  client "$reg" < "$work/input" | numbers | cmp - "$work/expected"
+  client --new "$reg" < "$work/input" | numbers | cmp - "$work/expected"
 }
 
 # the client ends with this status, says these words and answers nothing; the folder is as before
@@ -110,7 +110,7 @@ filled() {
     for n in {0..31}; do echo "found $n 0 16777215 65535 65535"; done
     printf 'grant 0 0\nappoint 0 0\n'
     for _ in {1..20}; do echo 'create 0 role 0 0 0 0 0 9 1 1 1 16777215 65535 65535'; done
-  } | client "$reg" > /dev/null && [ "$(wc -c < "$reg")" -gt 1024 ]
+  } | client --new "$reg" > /dev/null && [ "$(wc -c < "$reg")" -gt 1024 ]
 }
 
 damaged() { # COMMAND..: changes the register file
@@ -121,38 +121,41 @@ lengthen() { head -c "$1" /dev/zero >> "$reg"; }
 overwrite() { printf '%b' "$2" | dd of="$reg" bs=1 seek="$1" conv=notrunc status=none; }
 last_byte() { overwrite "$(($(wc -c < "$reg") - 1))" '\0001'; }
 
-no_folder() { start; refuses 1 'No such file' client "$work/folder/none/register" 'enrol 3 0'; }
-no_name() { start; refuses 1 'Not a directory' client tests/client.sh/register 'enrol 3 0'; }
-is_folder() { start; mkdir "$reg"; refuses 1 'Is a directory' client "$reg" 'enrol 3 0'; }
+# whether it is to be there or to be made
+both_ways() { # WORDS PATH
+  start
+  refuses 1 "$1" client "$2" 'enrol 3 0' && refuses 1 "$1" client --new "$2" 'enrol 3 0'
+}
+no_folder() { both_ways 'No such file' "$work/folder/none/register"; }
+no_name() { both_ways 'Not a directory' tests/client.sh/register; }
+long_name() { both_ways 'name.* too long' "$(printf '%05000d' 0)"; }
+is_folder() { start; mkdir "$reg"; refuses 1 'this is a folder' client "$reg" 'enrol 3 0'; }
 no_access() { start; ln -s register "$reg"; refuses 1 'Too many levels' client "$reg" 'enrol 3 0'; }
-long_name() { start; refuses 1 'the name is too long' client "$(printf '%05000d' 0)" 'enrol 3 0'; }
 usage() { start; refuses 2 usage client; }
 
-# the superuser may write everywhere but in the kernel's own folders
-unwritable() {
-  start
-  if [ "$(id -u)" -eq 0 ]; then
-    refuses 1 register.new client /proc/self/register 'enrol 3 0'
-  else
-    chmod 555 "$work/folder"
-    refuses 1 'Permission denied' client "$reg" 'enrol 3 0'
-    local status=$?
-    chmod 755 "$work/folder"
-    return "$status"
-  fi
-}
-
-second_client() { filled && : > "$reg.new" && refuses 1 'another client' client "$reg" 'enrol 3 0'; }
+# the kernel's own folders cannot be written by anybody
+unwritable() { start; refuses 1 folder client --new /proc/self/register 'enrol 3 0'; }
 
 no_input() { filled && refuses 1 'standard input' client "$reg" < /; }
 closed_input() { filled && refuses 1 'standard input' client "$reg" <&-; }
 
-full_output() { client "$reg" 'enrol 3 0' > /dev/full; }
+# no answer can be shown: the register is saved all the same, and the client says so
+unshown() { # COMMAND..
+  filled && cp "$reg" "$work/after" && client "$work/after" 'enrol 3 0' > /dev/null || return 1
+  "$@" 'enrol 3 0' 2> "$work/err"
+  local status=$?
+  cat "$work/err"
+  [ "$status" -eq 4 ] && grep -q 'standard output' "$work/err" && grep -q 'the register is saved' "$work/err" &&
+    cmp "$reg" "$work/after" && [ "$(ls -A "$work/folder")" = register ]
+}
+to_full() { client "$reg" "$@" > /dev/full; }
+
+# a closed output is seen before anything is played
 closed_output() { client "$reg" 'enrol 3 0' >&-; }
-no_output() { filled && refuses 1 'standard output' "$1"; }
+no_output() { filled && refuses 1 'standard output' closed_output; }
 
 # the file system takes 1,024 bytes and no more
-short_write() { (trap '' XFSZ; ulimit -f 1; client "$reg" 'enrol 3 0' | cat > /dev/null); }
+short_write() { (ulimit -f 1; client "$reg" 'enrol 3 0' | cat > /dev/null); }
 no_room() { filled && refuses 1 'too large' short_write; }
 
 client_checks() { # ROUND
@@ -178,11 +181,10 @@ client_checks() { # ROUND
   check "$1: a folder that cannot be written" unwritable
   check "$1: a name too long" long_name
   check "$1: no arguments" usage
-  check "$1: another client at work" second_client
   check "$1: input that cannot be read" no_input
   check "$1: input closed" closed_input
-  check "$1: output that cannot be written" no_output full_output
-  check "$1: output closed" no_output closed_output
+  check "$1: output that cannot be written" unshown to_full
+  check "$1: output closed" no_output
   check "$1: a register that cannot be written whole" no_room
 }
 
@@ -198,7 +200,7 @@ contract() { # ROUND
 }
 
 compile() { # FLAGS..
-  "$cc" -std=c11 "${flags[@]}" "$@" -Iinclude -o "$work/client" examples/client.c "$LIB" "${libs[@]}" &&
+  "$cc" -std=c11 "${flags[@]}" "$@" -Iinclude -o "$work/client" examples/client.c examples/store.c "$LIB" "${libs[@]}" &&
     "$cc" -std=c11 "${flags[@]}" "$@" -Iinclude -pthread -o "$work/contract" tests/client/contract.c "$LIB" "${libs[@]}"
 }
 
@@ -242,12 +244,12 @@ staged() { install_to /usr "$work/stage" && described "$work/stage/usr/lib/pkgco
 
 from_installed() {
   PKG_CONFIG_PATH="$work/prefix/lib/pkgconfig" make -s client-installed CLIENT="$work/installed" LIBS="${libs[*]}" &&
-    "$work/installed" "$work/installed.register" < crates/journal/stdin | numbers | cmp - crates/journal/stdout
+    "$work/installed" --new "$work/installed.register" < crates/journal/stdin | numbers | cmp - crates/journal/stdout
 }
 
 from_here() {
   make -s client LIB="$LIB" CLIENT="$work/local" LIBS="${libs[*]}" &&
-    "$work/local" "$work/local.register" < crates/journal/stdin | numbers | cmp - crates/journal/stdout
+    "$work/local" --new "$work/local.register" < crates/journal/stdin | numbers | cmp - crates/journal/stdout
 }
 
 uninstalled() {
@@ -270,8 +272,8 @@ check 'make uninstall' uninstalled
 
 check 'compiling with the sanitizers' compile -fsanitize=address,undefined -fno-sanitize-recover=all
 round sanitizers env
+check 'compiling plainly' compile
 if command -v valgrind > /dev/null; then
-  check 'compiling plainly' compile
   round valgrind valgrind --error-exitcode=9 --leak-check=full -q
 else
   echo 'valgrind is not there: only the sanitizers were run'
