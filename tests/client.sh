@@ -1,6 +1,7 @@
 #!/usr/bin/env bash
 # Tests the C library, its header, the example client and the installation; the client and tests/client/contract.c run twice,
-# with the sanitizers and under valgrind. The last line is 'N passed, M failed'.
+# with the sanitizers and under valgrind. tests/client/files.sh holds the client to what examples/store.h says of files.
+# The last line is 'N passed, M failed'.
 # Variables: LIB, the library (made if it is not there and not named); LIBS, further libraries to link; CC, CXX.
 set -u -o pipefail
 cd "$(dirname "$0")/.." || exit 1
@@ -210,6 +211,8 @@ round() { # TITLE RUNNER..
   contract "$1"
 }
 
+. tests/client/files.sh
+
 # ---- header and installation
 
 # the example in the header's first comment, as a program
@@ -272,6 +275,7 @@ check 'make uninstall' uninstalled
 
 check 'compiling with the sanitizers' compile -fsanitize=address,undefined -fno-sanitize-recover=all
 round sanitizers env
+file_checks
 check 'compiling plainly' compile
 if command -v valgrind > /dev/null; then
   round valgrind valgrind --error-exitcode=9 --leak-check=full -q
