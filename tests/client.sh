@@ -1,6 +1,6 @@
 #!/usr/bin/env bash
 # Tests the C library, its header, the example client and the installation; the client and tests/client/contract.c run twice,
-# with the sanitizers and under valgrind. tests/client/files.sh holds the client to what examples/store.h says of files.
+# with the sanitizers and under valgrind. tests/client/files.sh and kills.sh hold the client to what examples/store.h says.
 # The last line is 'N passed, M failed'.
 # Variables: LIB, the library (made if it is not there and not named); LIBS, further libraries to link; CC, CXX.
 set -u -o pipefail
@@ -212,6 +212,7 @@ round() { # TITLE RUNNER..
 }
 
 . tests/client/files.sh
+. tests/client/kills.sh
 
 # ---- header and installation
 
@@ -277,6 +278,7 @@ check 'compiling with the sanitizers' compile -fsanitize=address,undefined -fno-
 round sanitizers env
 file_checks
 check 'compiling plainly' compile
+kill_checks
 if command -v valgrind > /dev/null; then
   round valgrind valgrind --error-exitcode=9 --leak-check=full -q
 else

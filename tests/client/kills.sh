@@ -1,0 +1,330 @@
+# Sourced by tests/client.sh: the client killed, met by another client, or failed by the system at each of its system calls, and
+# at random. The register must be the one before the run or the one after it; with an answer shown, the one after it; and the
+# next client goes on without any help.
+
+# the register before, and after A (the client that is held), B (the one that meets it), or both
+images() {
+  start
+  rm -f "$work/none" "$work/made"
+  "$work/client" --new "$work/none" 'enrol 1 0' > /dev/null && cp "$work/none" "$work/A" && cp "$work/none" "$work/B" &&
+    "$work/client" "$work/A" 'enrol 2 0' 'enrol 3 0' > /dev/null && "$work/client" "$work/B" 'enrol 4 0' > /dev/null &&
+    cp "$work/A" "$work/AB" && "$work/client" "$work/AB" 'enrol 4 0' > /dev/null
+}
+
+# holds A at one call; its status in $status, its answers in out
+hold() { # NUMBER kill|go COMMAND ARGUMENT..
+  "$work/steps" "$1" "$2" "$3" "$work/client" "${@:4}" 'enrol 2 0' 'enrol 3 0' > "$work/out" 2> "$work/err"
+  status=$?
+  if [ "$status" -eq 65 ]; then cat "$work/err"; fi
+  [ "$status" -ne 65 ]
+}
+
+which_image() { # NAME..: the first that the register is
+  local name
+  for name in "$@"; do
+    if cmp -s "$reg" "$work/$name"; then echo "$name"; return; fi
+  done
+  echo other
+}
+
+wrong() { # MESSAGE
+  echo "$1; status $status, answers: $(tr '\n' ' ' < "$work/out"), in the folder: $(ls "$work/folder" | tr '\n' ' ')"
+  return 1
+}
+
+# the next client, with nothing cleared away, plays B's line
+next_plays() { # IMAGE-AFTER
+  "$work/client" "$reg" 'enrol 4 0' > "$work/next" 2>&1 && cmp "$work/next" <(echo 'ok 0') && cmp "$reg" "$work/$1" &&
+    [ "$(ls -A "$work/folder")" = register ]
+}
+
+# both outcomes, and answers shown, must be among the calls tried
+all_seen() { # SEEN WORD..
+  local word
+  for word in "${@:2}"; do
+    case $1 in *" $word "*) ;; *) echo "never seen: $word (seen:$1)"; return 1 ;; esac
+  done
+}
+
+killed_each() {
+  local call=1 seen=' ' now status
+  images || return 1
+  while :; do
+    cp "$work/none" "$reg"
+    hold "$call" kill : "$reg" || return 1
+    [ "$status" -eq 137 ] || break
+    [ -e "$reg.unsaved" ] && seen+='leftover '
+    now=$(which_image none A)
+    case $now in
+      none) [ ! -s "$work/out" ] && next_plays B ;;
+      A) next_plays AB ;;
+      *) false ;;
+    esac || { wrong "killed at call $call: the register is $now"; return 1; }
+    seen+="$now "
+    [ -s "$work/out" ] && seen+='shown '
+    call=$((call + 1))
+  done
+  [ "$status" -eq 64 ] && all_seen "$seen" none leftover A shown
+}
+
+# the same for a register that is to be made: it is not there, or it is whole
+killed_making() {
+  local call=1 seen=' ' now status
+  images && "$work/client" --new "$work/made" 'enrol 2 0' 'enrol 3 0' > /dev/null && cp "$work/made" "$work/made.next" &&
+    "$work/client" "$work/made.next" 'enrol 4 0' > /dev/null || return 1
+  while :; do
+    rm -f "$reg"
+    hold "$call" kill : --new "$reg" || return 1
+    [ "$status" -eq 137 ] || break
+    [ -e "$reg.unsaved" ] && seen+='leftover '
+    [ "$reg.unsaved" -ef "$reg" ] && seen+='linked '
+    if [ -e "$reg" ]; then
+      now=made
+    else
+      now=none
+      [ ! -s "$work/out" ] && "$work/client" --new "$reg" 'enrol 2 0' 'enrol 3 0' > /dev/null
+    fi && cmp "$reg" "$work/made" && next_plays made.next || { wrong "killed at call $call: $now"; return 1; }
+    seen+="$now "
+    [ -s "$work/out" ] && seen+='shown '
+    call=$((call + 1))
+  done
+  [ "$status" -eq 64 ] && all_seen "$seen" none leftover linked made shown
+}
+
+# Runs a command while another client is held, until it has ended or the kernel's list of locks has somebody who waits for the
+# folder. Its output goes to out.NAME and its status to status.NAME, which is written when it ends.
+export work
+cat > "$work/meet" << 'END'
+name=$1
+shift
+rm -f "$work/status.$name" "$work/waited.$name"
+{
+  "$@" > "$work/out.$name" 2>&1
+  echo "$?" > "$work/part.$name"
+  mv "$work/part.$name" "$work/status.$name"
+} &
+inode=$(stat -c %i "$work/folder")
+n=0
+until [ -e "$work/status.$name" ] || [ "$n" -eq 200 ] || grep -q -e "-> FLOCK .*:$inode " /proc/locks; do
+  sleep 0.005
+  n=$((n + 1))
+done
+[ -e "$work/status.$name" ] || echo waited > "$work/waited.$name"
+END
+cat > "$work/meet.B" << 'END'
+exec sh "$work/meet" B "$work/client" "$work/other/link" 'enrol 4 0'
+END
+cat > "$work/meet.C" << 'END'
+exec sh "$work/meet" C "$work/client" "$work/folder/register" 'enrol 5 0'
+END
+# B again, but held in its turn, at the call that the file says, and met by C
+cat > "$work/meet.BC" << 'END'
+exec sh "$work/meet" B "$work/steps" "$(cat "$work/call")" go 'sh "$work/meet.C"' "$work/client" "$work/other/link" 'enrol 4 0'
+END
+
+# it has ended, or does so now that nobody is held, and its line is played
+played() { # NAME
+  local n=0
+  until [ -e "$work/status.$1" ] || [ "$n" -eq 2000 ]; do
+    sleep 0.005
+    n=$((n + 1))
+  done
+  [ "$(cat "$work/status.$1")" = 0 ] && cmp "$work/out.$1" <(echo 'ok 0')
+}
+
+# B comes by another path while A is held
+meeting() { images && rm -rf "$work/other" && mkdir "$work/other" && ln -s ../folder/register "$work/other/link"; }
+
+met_each() { # kill|go
+  local call=1 seen=' ' now status
+  meeting || return 1
+  while :; do
+    cp "$work/none" "$reg"
+    hold "$call" "$1" "sh '$work/meet.B'" "$reg" || return 1
+    [ "$status" -ne 64 ] || break
+    played B || { wrong "met at call $call: the other client did not play"; return 1; }
+    now=$(which_image B AB)
+    case $1:$now:$status in
+      go:AB:0) cmp "$work/out" <(printf 'ok 0\nok 0\n') ;;
+      kill:B:137) [ ! -s "$work/out" ] ;;
+      kill:AB:137) ;;
+      *) false ;;
+    esac && [ "$(ls -A "$work/folder")" = register ] || { wrong "met at call $call: the register is $now"; return 1; }
+    seen+="$now "
+    if [ -e "$work/waited.B" ]; then seen+="waited $call:waited "; else seen+='passed '; fi
+    call=$((call + 1))
+  done
+  all_seen "$seen" AB waited passed && if [ "$1" = kill ]; then all_seen "$seen" B; fi && echo "$seen" > "$work/seen"
+}
+
+# B has waited for A, which put a new file in the register's place, and is met in its turn by C: is its lock still the lock?
+met_waiting() {
+  local call first status
+  meeting && cp "$work/AB" "$work/ABC" && "$work/client" "$work/ABC" 'enrol 5 0' > /dev/null || return 1
+  first=$(grep -o '[0-9]*:waited' "$work/seen" | head -n 1)
+  first=${first%:*}
+  for ((call = first; ; call++)); do
+    cp "$work/none" "$reg"
+    rm -f "$work/status.C"
+    echo "$call" > "$work/call"
+    hold "$first" go "sh '$work/meet.BC'" "$reg" || return 1
+    played B || [ "$(cat "$work/status.B")" = 64 ] || { wrong "waiting, at call $call: B did not play"; return 1; }
+    [ "$(cat "$work/status.B")" != 64 ] || break
+    played C && cmp "$reg" "$work/ABC" || { wrong "waiting, met at call $call: a line is lost"; return 1; }
+  done
+  [ "$call" -gt $((first + 10)) ]
+}
+
+# ---- the system's answer to one call is a fault
+
+# each call of a run: its name, and which of this name it is
+calls() {
+  cp "$work/none" "$reg"
+  strace -o "$work/trace" "$work/client" "$reg" 'enrol 2 0' 'enrol 3 0' > "$work/out" &&
+    awk -F '(' '/^[a-z]/ && !/^exec/ { print $1, ++count[$1] }' "$work/trace"
+}
+
+# strace gives the fault to one call
+fail_call() { # FAULT NAME NUMBER
+  cp "$work/none" "$reg"
+  strace -o "$work/trace" -e "inject=$2:error=$1:when=$3" \
+    "$work/client" "$reg" 'enrol 2 0' 'enrol 3 0' > "$work/out" 2> "$work/err"
+  status=$?
+  grep -q INJECTED "$work/trace"
+}
+
+# what may be of a run that met a fault: its status and the register
+fits() { # STATUS:IMAGE
+  case $1 in
+    0:A) cmp "$work/out" <(printf 'ok 0\nok 0\n') ;;
+    1:none | 4:A) [ ! -s "$work/out" ] && grep -q '^client: ' "$work/err" ;;
+    127:none | 1[0-9][0-9]:none) [ ! -s "$work/out" ] ;; # the program could not be started
+    1[0-9][0-9]:A) cmp "$work/out" <(printf 'ok 0\nok 0\n') ;; # it could not be ended
+    *) false ;;
+  esac
+}
+
+failed_each() { # FAULT
+  local seen=' ' now status name number
+  images && calls > "$work/calls" || return 1
+  while read -r name number; do
+    fail_call "$1" "$name" "$number" || { wrong "$name $number does not get $1"; return 1; }
+    now=$(which_image none A)
+    fits "$status:$now" || { wrong "$1 of $name $number: the register is $now"; return 1; }
+    if [ "$now" = none ]; then next_plays B; else next_plays AB; fi ||
+      { wrong "the next client, after $1 of $name $number"; return 1; }
+    seen+="$status:$now "
+  done < "$work/calls"
+  echo "$seen"
+  all_seen "$seen" 0:A 1:none 4:A
+}
+
+# written, synced, renamed, the folder synced, the lock given up, and only then shown
+order() {
+  images && cp "$work/none" "$reg" || return 1
+  strace -y -o "$work/trace" "$work/client" "$reg" 'enrol 2 0' 'enrol 3 0' > "$work/out" || return 1
+  sed -n -e 's/^flock(.*LOCK_EX.*= 0$/lock/p' -e 's/^fsync([0-9]*<[^>]*folder>) *= 0$/sync the folder/p' \
+    -e 's/^write([0-9]*<[^>]*unsaved>.*/write/p' -e 's/^fsync([0-9]*<[^>]*unsaved>) *= 0$/sync the register/p' \
+    -e 's/^rename[^"]*"register.unsaved",[^"]*"register".*= 0$/rename/p' \
+    -e 's/^close([0-9]*<[^>]*folder>) *= 0$/unlock/p' -e 's/^write(1<.*/show/p' "$work/trace" |
+    diff - <(printf '%s\n' lock 'sync the folder' write 'sync the register' rename 'sync the folder' unlock show)
+}
+
+# more lines than there is memory for: none is played
+no_memory() {
+  images && cp "$work/none" "$reg" || return 1
+  { echo 'enrol 2 0'; yes '' | head -n 20000000; } |
+    (ulimit -v 30000; "$work/client" "$reg") > "$work/out" 2> "$work/err"
+  status=$?
+  [ "$status" -eq 1 ] && grep -q 'no memory' "$work/err" && [ ! -s "$work/out" ] && cmp "$reg" "$work/none" || wrong 'no memory'
+}
+
+# ---- two clients at once, killed at random
+
+# Each run raises a limit by three, line by line; what it shows, if anything, goes to shown.NAME. The time after which it is
+# killed is at random up to a bound that rises with each kill and falls with each run that ended, so that both are frequent.
+worker() { # NAME SEED
+  local run status bound=40
+  RANDOM=$2
+  for run in {1..150}; do
+    timeout -s KILL "$(printf '0.%04d' $((RANDOM % bound + 1)))" \
+      "$work/client" "$reg" 'amend 3 0 1' 'amend 3 0 1' 'amend 3 0 1' > "$work/run.$1" 2>&1
+    status=$?
+    cat "$work/run.$1" >> "$work/shown.$1"
+    case $status in
+      0) bound=$((bound - bound / 16)) ;;
+      137) bound=$((bound + bound / 16 + 1)); echo "$run" >> "$work/killed" ;;
+      *) echo "worker $1, run $run: status $status" >> "$work/bad" ;;
+    esac
+  done
+}
+
+# at every moment the file is a register
+watcher() {
+  mkdir -p "$work/watched"
+  while [ ! -e "$work/stop" ]; do
+    cat "$reg" > "$work/watched/register" && "$work/client" "$work/watched/register" < /dev/null ||
+      echo 'not a register' >> "$work/bad"
+    echo seen >> "$work/copies"
+  done
+}
+
+raised() { # the limit of the pass
+  "$work/client" "$reg" 'amend 3 0 1' 'amend 3 0 -1' | sed -n '1s/^ok //p'
+}
+
+at_random() {
+  start
+  rm -f "$work"/shown.* "$work/killed" "$work/bad" "$work/stop" "$work/copies"
+  "$work/client" --new "$reg" 'enrol 3 0' 'found 1 0 16777215 65535 65535' 'grant 1 0' 'appoint 3 1' \
+    'create 3 role 1 9 0 0 0 100 0 1 2 16777215 65535 65535' > /dev/null || return 1
+  local workers watching
+  worker 1 11 2> /dev/null &
+  workers=$!
+  worker 2 12 2> /dev/null &
+  workers+=" $!"
+  watcher &
+  watching=$!
+  wait $workers
+  : > "$work/stop"
+  wait "$watching"
+  judge
+}
+
+# What was shown is in the register once: the answers are 1, 2, 3 and so on, with gaps of three, no more than runs were killed.
+judge() {
+  local limit shown killed
+  limit=$(($(raised) - 1))
+  killed=$(wc -l < "$work/killed")
+  sed -n 's/^ok //p' "$work"/shown.[12] | sort -n > "$work/values"
+  shown=$(wc -l < "$work/values")
+  echo "limit $limit, shown $shown, killed $killed, copies $(wc -l < "$work/copies")"
+  [ ! -e "$work/bad" ] || { cat "$work/bad"; return 1; }
+  ! grep -v '^ok ' "$work"/shown.[12] && [ -z "$(uniq -d "$work/values")" ] &&
+    [ "$((limit % 3))" -eq 0 ] && [ "$((shown % 3))" -eq 0 ] &&
+    [ "$(tail -n 1 "$work/values")" -le "$limit" ] && [ "$((limit - shown))" -le "$((3 * killed))" ] &&
+    [ "$shown" -ge 30 ] && [ "$killed" -ge 30 ] &&
+    awk 'NR % 3 == 1 && $1 % 3 != 1 || NR % 3 != 1 && $1 != last + 1 { exit 1 } { last = $1 }' "$work/values"
+}
+
+kill_checks() {
+  check 'compiling the program that holds another' "$cc" -std=c11 "${flags[@]}" -o "$work/steps" tests/client/steps.c
+  if "$work/steps" 1 go : /bin/true 2> /dev/null; then
+    check 'kills: killed at each call' killed_each
+    check 'kills: killed at each call while it makes a register' killed_making
+    check 'kills: met at each call by a client on another path' met_each go
+    check 'kills: met at each call after it has waited' met_waiting
+    check 'kills: met at each call, and killed' met_each kill
+  else
+    echo 'not run: kills at each call, as no program may hold another'
+  fi
+  check 'kills: two clients at once, killed at random' at_random
+  check 'faults: more lines than memory' no_memory
+  if strace -o /dev/null -e inject=fsync:error=EIO true 2> /dev/null; then
+    check 'faults: EIO at each call' failed_each EIO
+    check 'faults: EINTR at each call' failed_each EINTR
+    check 'order: saved before shown' order
+  else
+    echo 'not run: faults at each call, and their order, as there is no strace'
+  fi
+}
