@@ -94,13 +94,15 @@ odd_lines() {
 refuses() { # STATUS WORDS COMMAND..
   local status=$1 words=$2
   shift 2
-  rm -rf "$work/before"
   cp -a "$work/folder" "$work/before"
   "$@" > "$work/out" 2> "$work/err"
-  local got=$?
+  local got=$? differs
   cat "$work/err"
-  [ "$got" -eq "$status" ] && [ ! -s "$work/out" ] && grep -q -e "$words" "$work/err" &&
-    diff -r --no-dereference "$work/before" "$work/folder"
+  diff -r --no-dereference "$work/before" "$work/folder"
+  differs=$?
+  chmod u+w "$work/before"
+  rm -rf "$work/before"
+  [ "$got" -eq "$status" ] && [ ! -s "$work/out" ] && grep -q -e "$words" "$work/err" && [ "$differs" -eq 0 ]
 }
 
 # a register of more than 1,024 bytes
