@@ -59,7 +59,7 @@ struct store {
 /* Locks and loads the register. With `fresh` it starts one, which must not be there; store_save makes its file. */
 enum store_status store_open(struct store *store, const char *path, bool fresh);
 
-/* Plays a line on the register in memory: the value, or the refusal as a negative number. */
+/* Plays a line on the register in memory; what comes back is what fellunqa_apply returns. */
 int64_t store_play(struct store *store, const uint8_t *line, size_t length);
 
 /* Puts the register in memory in the place of the file. */
