@@ -61,29 +61,28 @@ build_damage() { # NAME LIBRARY..
     "$cc" "${flags[@]}" -o "$work/$1" "$stored/damage.c" "$work/inspect.o" examples/inspect/*.c "${@:2}"
 }
 
-inspect() { "$work/inspect" "$@"; }
+# a wrong one may print without end: of a file it gets 4 MB and of the processor 60 seconds
+bounded() { (ulimit -f 4096 -t 60 && exec "$@"); }
+inspect() { bounded "$work/inspect" "$@"; }
 
 # ---- what is printed
 
 printed() { # text|dot IMAGE
-  if [ "$1" = dot ]; then inspect --dot "$2"; else inspect "$2"; fi
+  if [ "$1" = dot ]; then inspect --dot "$2"; else inspect "$2"; fi > "$work/printed"
 }
 expected() { # text|dot IMAGE..
-  "$work/expected" "$@"
-}
-sums() { # printed|expected IMAGE
-  for kind in text dot; do echo "$kind $("$1" $kind "$2" | cksum)"; done
+  "$work/expected" "$@" > "$work/wanted"
 }
 
 is_stored() { # text|dot NAME IMAGE
-  printed "$1" "$3" | diff "$stored/$2.$1" -
+  printed "$1" "$3" && diff "$stored/$2.$1" "$work/printed"
 }
 is_expected() { # text|dot IMAGE
-  printed "$1" "$2" | diff <(expected "$1" "$2") -
+  expected "$1" "$2" && printed "$1" "$2" && diff "$work/wanted" "$work/printed"
 }
-rebuilt() { inspect "$1" | "$work/rebuild" | cmp - "$1"; }
-grammar() { inspect --dot "$1" > "$work/graph" && "$work/dot" "$work/graph"; }
-graphviz() { inspect --dot "$1" | dot -Tsvg | grep -q '</svg>'; }
+rebuilt() { printed text "$1" && "$work/rebuild" < "$work/printed" | cmp - "$1"; }
+grammar() { printed dot "$1" && "$work/dot" "$work/printed"; }
+graphviz() { printed dot "$1" && dot -Tsvg "$work/printed" | grep -q '</svg>'; }
 
 # whatever holds of every register
 holds() { # IMAGE
@@ -101,7 +100,7 @@ register() { # NAME IMAGE
 # a register whose output is stored whole
 example() { # NAME IMAGE
   for kind in text dot; do
-    if [ "$write" = --write ]; then expected "$kind" "$2" > "$stored/$1.$kind"; fi
+    if [ "$write" = --write ]; then expected "$kind" "$2" && cp "$work/wanted" "$stored/$1.$kind"; fi
     check "$1: the stored $kind" is_stored "$kind" "$1" "$2"
   done
   register "$1" "$2"
@@ -119,14 +118,21 @@ examples() {
 }
 
 # of a full register, whose text has 2,000 lines, only the sums are stored
+write_sums() { # IMAGE
+  for kind in text dot; do expected "$kind" "$1" && echo "$kind $(cksum < "$work/wanted")"; done > "$stored/full.sums"
+}
+has_sum() { # text|dot IMAGE
+  printed "$1" "$2" && grep -x "$1 $(cksum < "$work/printed")" "$stored/full.sums"
+}
 is_full() { # IMAGE
-  inspect "$1" | grep '(' | diff <(printf 'users (64)\nroles (32), capabilities (256)\nsessions (64)\n') -
+  printed text "$1" && grep '(' "$work/printed" |
+    diff <(printf 'users (64)\nroles (32), capabilities (256)\nsessions (64)\n') -
 }
 full() {
   awk -f "$stored/full.awk" | "$work/play" > "$work/full.image"
-  if [ "$write" = --write ]; then sums expected "$work/full.image" > "$stored/full.sums"; fi
+  if [ "$write" = --write ]; then write_sums "$work/full.image"; fi
   check 'full: it is full' is_full "$work/full.image"
-  check 'full: the stored sums' diff "$stored/full.sums" <(sums printed "$work/full.image")
+  for kind in text dot; do check "full: the stored sum of the $kind" has_sum "$kind" "$work/full.image"; done
   register full "$work/full.image"
 }
 
@@ -145,12 +151,12 @@ and_a_byte() { cat "$1" && zeros 1; }
 accepted() { # FOLDER
   local images=("$1"/*.image)
   [ "${#images[@]}" -gt 100 ] || return 1
-  for kind in text dot; do cat "$1"/*."$kind" | cmp - <(expected "$kind" "${images[@]}") || return 1; done
+  for kind in text dot; do expected "$kind" "${images[@]}" && cat "$1"/*."$kind" | cmp - "$work/wanted" || return 1; done
 }
 
 damage() { # NAME IMAGE STATUS
   mkdir -p "$work/$1.kept"
-  ASAN_OPTIONS=detect_leaks=0 "$work/$1" "$2" "$3" "$work/$1.kept"
+  ASAN_OPTIONS=detect_leaks=0 bounded "$work/$1" "$2" "$3" "$work/$1.kept"
 }
 
 # of images that break the rules too, all capabilities are printed, and what is named in a graph is in it
@@ -204,7 +210,8 @@ not_right() {
 
 # the command prints the stored output of the deputy's register and nothing else
 deputy() { # text|dot COMMAND..
-  "${@:2}" < "$work/deputy.image" 2> "$work/err" | diff "$stored/deputy.$1" - && [ ! -s "$work/err" ]
+  "${@:2}" < "$work/deputy.image" > "$work/printed" 2> "$work/err" && diff "$stored/deputy.$1" "$work/printed" &&
+    [ ! -s "$work/err" ]
 }
 named() { (cd "$work" && cp deputy.image ./--dot && inspect -- --dot); }
 no_input() { inspect; }
@@ -251,7 +258,8 @@ faults() {
 # the block ```inspect of the manual: a command, and what it prints of the register that examples/deputy.txt leaves
 manual() {
   awk '$0 == "```" { on = 0 } on { print } $0 == "```inspect" { on = 1 }' docs/MANUAL.md > "$work/block"
-  [ "$(head -n 1 "$work/block")" = '$ inspect deputy.image' ] && tail -n +2 "$work/block" | diff - <(inspect "$work/deputy.image")
+  [ "$(head -n 1 "$work/block")" = '$ inspect deputy.image' ] && printed text "$work/deputy.image" &&
+    tail -n +2 "$work/block" | diff - "$work/printed"
 }
 
 # the example in the comment of image.h, as a program with image.c alone
@@ -267,7 +275,7 @@ reader() {
 }
 
 from_make() {
-  make -s inspect LIB="$LIB" INSPECT="$work/made" LIBS="${libs[*]}" && deputy text "$work/made"
+  make -s inspect LIB="$LIB" INSPECT="$work/made" LIBS="${libs[*]}" && deputy text bounded "$work/made"
 }
 
 check 'compiling with the sanitizers' build
