@@ -1,5 +1,5 @@
 /*
- * fellunqa.h: the C entry point of Fellunqa, a register of capabilities ("passes") for payroll bureaus.
+ * fellunqa.h: the C entry point of Fellunqa, a register of capabilities for payroll bureaus.
  *
  * A register is kept as an image, a string of bytes that the caller stores. One function plays one line on it: it
  * reads the image and the line, and writes the image of the register after the line. docs/SPECIFICATION.md says what
