@@ -255,9 +255,9 @@ faults() {
 
 # ---- the texts
 
-# the block ```inspect of the manual: a command, and what it prints of the register that examples/deputy.txt leaves
-manual() {
-  awk '$0 == "```" { on = 0 } on { print } $0 == "```inspect" { on = 1 }' docs/MANUAL.md > "$work/block"
+# the block ```inspect of docs/LIBRARY.md: a command, and what it prints of the register that examples/deputy.txt leaves
+shown() {
+  awk '$0 == "```" { on = 0 } on { print } $0 == "```inspect" { on = 1 }' docs/LIBRARY.md > "$work/block"
   [ "$(head -n 1 "$work/block")" = '$ inspect deputy.image' ] && printed text "$work/deputy.image" &&
     tail -n +2 "$work/block" | diff - "$work/printed"
 }
@@ -287,7 +287,7 @@ damaged
 not_right
 usage
 faults
-check 'the sample in the manual' manual
+check "the sample in docs/LIBRARY.md" shown
 check 'the example in image.h' reader
 check 'make inspect' from_make
 finish

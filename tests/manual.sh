@@ -1,10 +1,10 @@
 #!/usr/bin/env bash
 # Holds the examples of the manual, the specification and the man page to the programs. The blocks ```journal of docs/MANUAL.md
-# are one journal, and so are those of docs/SPECIFICATION.md and the lines between .EX and .EE of docs/fellunqa-journal.1: each line is
-# followed by '-> ' and its answer. All are played through the proved journal program and through the independent
-# implementation; each answer shown counts one.
-# The blocks ```entry are played through the independent implementation's entry point. `rt check journal` or `rt ci` builds
-# the proved program; JOURNAL names another one. The last line is 'N passed, M failed'.
+# are one journal, and so are those of docs/SPECIFICATION.md and the lines between .EX and .EE of docs/fellunqa-journal.1: each
+# line is followed by '-> ' and its answer. All are played through the proved journal program and through the independent
+# implementation; each answer shown counts one. The blocks ```entry of docs/LIBRARY.md are played through the independent
+# implementation's entry point. `rt check journal` or `rt ci` builds the proved program; JOURNAL names another one. The last line
+# is 'N passed, M failed'.
 set -uo pipefail
 cd "$(dirname "$0")/.." || exit 1
 journal=${JOURNAL:-target/bin/journal}
@@ -54,7 +54,7 @@ hold() { # PROGRAM PAIRS SOURCE
 
 # a row for each ```entry block: image, line, area before, area after, value returned; without the spaces between bytes
 entries() {
-  blocks docs/MANUAL.md '```entry' '```' |
+  blocks docs/LIBRARY.md '```entry' '```' |
     awk '{ key = $1; $1 = ""; gsub(/ /, ""); row = row $0 (key == "->" ? "\n" : "\t") } END { printf "%s", row }'
 }
 
@@ -95,11 +95,11 @@ done
 build_entry || exit 1
 entries > "$work/entries"
 [ -s "$work/entries" ]
-count $? 'docs/MANUAL.md has no example of the entry point'
+count $? 'docs/LIBRARY.md has no example of the entry point'
 while IFS=$'\t' read -r image line before after value; do
   got=$("$work/entry" "$image" "$line" "$before")
   [ "$got" = "$after $value" ]
-  count $? "docs/MANUAL.md: entry shows $after $value, but it is $got"
+  count $? "docs/LIBRARY.md: entry shows $after $value, but it is $got"
 done < "$work/entries"
 
 echo "$passed passed, $failed failed"

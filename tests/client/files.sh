@@ -53,10 +53,10 @@ bad_names() {
     client --new "$work/folder/$(printf '%0247d' 0)" < /dev/null
 }
 
-# the commands that the manual shows, with what they print
-in_manual() {
+# the commands that docs/LIBRARY.md shows, with what they print
+in_text() {
   start
-  awk '$0 == "```" { on = 0 } on { print } $0 == "```client" { on = 1 }' docs/MANUAL.md > "$work/shown"
+  awk '$0 == "```" { on = 0 } on { print } $0 == "```client" { on = 1 }' docs/LIBRARY.md > "$work/shown"
   grep '^[$] ' "$work/shown" | while IFS= read -r command; do
     echo "$command"
     (cd "$work/folder" && PATH="$work:$PATH" bash -c "${command#??}" 2>&1 || :)
@@ -249,7 +249,7 @@ file_checks() {
   check 'usage: --new where something is' there_already
   check 'usage: --new without a name' refuses 2 usage client --new
   check 'usage: names that no register can have' bad_names
-  check 'usage: the example in the manual' in_manual
+  check 'usage: the example in docs/LIBRARY.md' in_text
   check 'files: several paths, one register' links
   check 'files: a link that leads nowhere' nowhere
   check 'files: a second hard link' hard_link
