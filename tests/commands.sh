@@ -2,8 +2,8 @@
 # Runs the commands that the texts print, just as they are printed: the ```sh blocks of each text and the marked ones of the man page,
 # in their order, in a copy of the repository with a home folder of its own. A ```text block right after one is what it prints. A
 # ```c block with a file's name is that file; one without a name is compiled after the header. README comes first; what it installs is
-# there for the others. A line named in `left_out` is not run. Then the links of the texts, the version, the installation and the
-# journal program's arguments are tested.
+# there for the others. A line in `left_out` is not run, one in `in_place` in the repository itself. Then the links of the texts, the
+# version, the installation and the journal program's arguments are tested.
 # `rt check journal` or `rt ci` builds the program, and the library is made if it is not there. The last line is 'N passed, M failed'.
 set -u
 cd "$(dirname "$0")/.." || exit 1
@@ -20,13 +20,12 @@ failed=0
 
 # lines that are printed and not run, each with the reason
 declare -A left_out=(
-  ['rt check journal']='a proof of minutes; the gate proves the program and builds it'
   ['bash .ci/run']='the gate itself'
-  ['rt dev giving']='a proof; the gate proves every crate'
-  ['rt check giving']='a proof of minutes; the gate proves every crate'
   ['rt must-fail giving']='proofs of minutes; the gate tries every edit'
   ['bash bench/run']='measures, and proves a library first'
 )
+# lines that are run in the repository itself: what the gate has proved there is not proved again
+in_place=' rt check journal | rt dev giving | rt check giving '
 declare -A met=()
 
 count() { # STATUS MESSAGE
@@ -83,6 +82,9 @@ keep() { # FILE TITLE
     if [ -n "$line" ] && [ -n "${left_out[$line]:-}" ]; then
       met[$line]=yes
       echo "not run, $2: $line (${left_out[$line]})"
+    elif [ -n "$line" ] && [[ $in_place == *" $line "* ]]; then
+      $line > "$work/out" 2>&1
+      count $? "$2: $line ends well ($(tail -n 5 "$work/out"))"
     else
       printf '%s\n' "$line" >> "$work/script"
     fi
