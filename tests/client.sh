@@ -72,10 +72,13 @@ carried() {
   numbers < "$work/three" | cmp - "$work/one" && cmp "$reg" "$work/folder/whole"
 }
 
+# the longest line that yields a request, and the same with more after its end
 arguments() {
   start
-  client --new "$reg" 'enrol 3 0' 'enrol 3 0' '' $'enrol 4 0\nenrol 5 0' "enrol $(printf '%0200d' 4) 0" 'enrol 4 0' |
-    numbers | cmp - <(printf 'ok 0\nno 4\nno 1\nno 1\nno 1\nok 0\n')
+  local longest
+  longest="create 4294967295 role$(printf ' %d' {4294967284..4294967295})"
+  client --new "$reg" 'enrol 3 0' 'enrol 3 0' '' $'enrol 4 0\nenrol 5 0' "enrol $(printf '%0200d' 4) 0" 'enrol 4 0' \
+    "$longest" "$longest"$'\nx' | numbers | cmp - <(printf 'ok 0\nno 4\nno 1\nno 1\nno 1\nok 0\nno 2\nno 1\n')
 }
 
 # a line gets one answer, however long it is and whatever is in it

@@ -24,7 +24,7 @@ unknown() { # OPTION..
 # after --, and after the register, nothing is an option
 no_options() {
   start
-  (cd "$work/folder" && client --new -- --help 'enrol 3 0' && client -- --help --new --help &&
+  (cd "$work/folder" && client --new -- --help 'enrol 3 0' && client -- --help --help --new &&
     client ./--help 'enrol 3 0') | numbers | cmp - <(printf 'ok 0\nno 1\nno 1\nno 4\n') && [ "$(ls -A "$work/folder")" = --help ]
 }
 
@@ -67,7 +67,8 @@ in_text() {
 
 # ends as a run without links would: the register is right, and the folder has just these names
 ends_with() { # LINES NAME..
-  client --new "$work/plain" < "$1" > /dev/null && cmp "$reg" "$work/plain" && rm "$work/plain" || return 1
+  rm -f "$work/plain"
+  client --new "$work/plain" < "$1" > /dev/null && cmp "$reg" "$work/plain" || return 1
   diff <(printf '%s\n' "${@:2}") <(ls -A "$work/folder")
 }
 

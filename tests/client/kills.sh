@@ -193,8 +193,9 @@ fail_call() { # FAULT NAME NUMBER
   grep -q INJECTED "$work/trace"
 }
 
-# what may be of a run that met a fault: its status and the register
-fits() { # STATUS:IMAGE
+# what may be of a run that met a fault: its status and the register; a failed lock, read, write, sync or rename is told
+fits() { # STATUS:IMAGE FAULT NAME
+  case $2:$3:$1 in EIO:flock:0:* | EIO:read:0:* | EIO:write:0:* | EIO:fsync:0:* | EIO:rename*:0:*) return 1 ;; esac
   case $1 in
     0:A) cmp "$work/out" <(printf 'ok 0\nok 0\n') ;;
     1:none | 4:A) [ ! -s "$work/out" ] && grep -q '^client: ' "$work/err" ;;
@@ -210,7 +211,7 @@ failed_each() { # FAULT
   while read -r name number; do
     fail_call "$1" "$name" "$number" || { wrong "$name $number does not get $1"; return 1; }
     now=$(which_image none A)
-    fits "$status:$now" || { wrong "$1 of $name $number: the register is $now"; return 1; }
+    fits "$status:$now" "$1" "$name" || { wrong "$1 of $name $number: the register is $now"; return 1; }
     if [ "$now" = none ]; then next_plays B; else next_plays AB; fi ||
       { wrong "the next client, after $1 of $name $number"; return 1; }
     seen+="$status:$now "
@@ -230,13 +231,14 @@ order() {
     diff - <(printf '%s\n' lock 'sync the folder' write 'sync the register' rename 'sync the folder' unlock show)
 }
 
-# more lines than there is memory for: none is played
-no_memory() {
+# more lines, or more answers, than there is memory for: none is played
+no_memory() { # WORDS LINE NUMBER
+  local status
   images && cp "$work/none" "$reg" || return 1
-  { echo 'enrol 2 0'; yes '' | head -n 20000000; } |
-    (ulimit -v 30000; "$work/client" "$reg") > "$work/out" 2> "$work/err"
+  { echo 'enrol 2 0'; yes "$2" | head -n "$3"; } | (ulimit -v 30000; "$work/client" "$reg") > "$work/out" 2> "$work/err"
   status=$?
-  [ "$status" -eq 1 ] && grep -q 'no memory' "$work/err" && [ ! -s "$work/out" ] && cmp "$reg" "$work/none" || wrong 'no memory'
+  [ "$status" -eq 1 ] && grep -q "$1: there is no memory" "$work/err" && [ ! -s "$work/out" ] && cmp "$reg" "$work/none" ||
+    wrong 'no memory'
 }
 
 # ---- two clients at once, killed at random
@@ -252,7 +254,7 @@ worker() { # NAME SEED
     status=$?
     cat "$work/run.$1" >> "$work/shown.$1"
     case $status in
-      0) bound=$((bound - bound / 16)) ;;
+      0) bound=$((bound > 1 ? bound - (bound + 15) / 16 : 1)) ;;
       137) bound=$((bound + bound / 16 + 1)); echo "$run" >> "$work/killed" ;;
       *) echo "worker $1, run $run: status $status" >> "$work/bad" ;;
     esac
@@ -319,7 +321,8 @@ kill_checks() {
     echo 'not run: kills at each call, as no program may hold another'
   fi
   check 'kills: two clients at once, killed at random' at_random
-  check 'faults: more lines than memory' no_memory
+  check 'faults: more lines than memory' no_memory 'the lines' "$(printf '%0150d' 0)" 300000
+  check 'faults: more answers than memory' no_memory 'the answers' '' 4000000
   if strace -o /dev/null -e inject=fsync:error=EIO true 2> /dev/null; then
     check 'faults: EIO at each call' failed_each EIO
     check 'faults: EINTR at each call' failed_each EINTR
