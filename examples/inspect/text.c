@@ -11,7 +11,7 @@ static unsigned number_of(uint64_t mask)
     return number;
 }
 
-/* The capabilities derived from the origin, each followed by those below it. Each is below one with a smaller number. */
+/* The capabilities derived from the origin, each followed by those below it. Below numbers rise, so this ends. */
 static void print_below(const struct page *page, int level, const struct image *image, struct image_origin origin)
 {
     for (uint64_t number = 0; number < image->count; number++) {
