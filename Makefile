@@ -8,6 +8,7 @@
 #   make client                      builds the example client against the library here
 #   make client-installed            builds it against the installed library, found by pkg-config
 #   make check-client                tests library, header, client and installation
+#   make inspect                     builds examples/inspect.c, which prints what a register holds
 .POSIX:
 
 # the version of include/fellunqa.h; tests/commands.sh holds the two equal
