@@ -20,7 +20,7 @@
  *         puts("user 3 is enrolled already");
  *     }
  *
- * examples/client.c is a whole program.
+ * examples/client.c, with examples/store.c, is a whole program.
  */
 #ifndef FELLUNQA_H
 #define FELLUNQA_H
