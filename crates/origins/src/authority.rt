@@ -35,7 +35,7 @@ fn role_item(columns: &[u32; 64], from: usize, k: u8) -> u32
     }
 }
 
-// The authority of a capability: its own permissions and those of its lent roles, of which most have none.
+// The authority of a capability: its own permissions and those of its lent roles; without lent roles no column is read.
 pub fn authority_in(columns: &[u32; 64], c: Capability) -> u32
     ensures { λ q. ⌜ q ≡ authorityIn (now (columns .entry)) c ⌝ }
 {
