@@ -24,7 +24,7 @@ use Rattle.model.specs.Rulings.{value, refused, Guard, role, capability,
 use Rattle.model.specs.Sessions.{permits, permitTests, checkRuling}
 use Rattle.model.specs.Calls.{check, ruling}
 use Rattle.model.specs.Theorem.{asked, Yes, Contained, Sound, RoleSound, Entitled}
-use Rattle.model.proofs.Settling.{verdict-cases, clear-verdict, step-answer}
+use Rattle.model.proofs.Settling.{value-refused, verdict-cases, clear-verdict, step-answer}
 use Rattle.model.proofs.Authority.{authority-small}
 use Rattle.model.proofs.Kept.{Kept}
 use Rattle.model.proofs.Places.{role→}
@@ -32,10 +32,6 @@ use Rattle.model.proofs.Ranges.{founded-lt}
 use Rattle.model.proofs.Rules.{kept←}
 use Rattle.model.proofs.Tree.{contained, descends-shown, reaches, reaches-below}
 use Rattle.model.proofs.History.{Shows}
-
--- two answers told apart
-pub value-refused : {A : Type 0} {v n : ℕ} → value v ≡ refused n → A
-value-refused e = let z : _≡_ {A = ℕ} 0 1 = cc in absurd (omega arith)
 
 pub one-yes : (b : Bool) → value (cond b 1 0) ≡ value 1 → T b
 one-yes true e = tt

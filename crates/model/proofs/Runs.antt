@@ -1,11 +1,11 @@
 -- A journal and batches are lists; what one call from C returns.
 use mathlib.Core.Path.{_≡_, refl, sym, ap, _∙_, subst}
-use mathlib.Core.Bool.{Bool, true, false, cond}
+use mathlib.Core.Bool.{Bool, true, false, not, cond}
 use mathlib.Core.List.{List, [], _∷_, _++_, map, append-assoc}
 use mathlib.Core.Option.{Option, none, some}
 use Prim.Native.Nat.{ℕ, _+_, _≤_}
 use native.Mathlib.Omega.{arith}
-use borrow.Author.Tests.{le-leb, lt-leb, leb-true}
+use borrow.Author.Tests.{le-leb, lt-leb, leb-true, leb-false}
 use lib.Dec.{T, leb}
 use lib.ListN.{length}
 use Rattle.masks.specs.Bytes.{split}
@@ -21,7 +21,7 @@ use Rattle.model.specs.Journal.{requested, lineEffect, unended, transcri
 use Rattle.model.specs.Entry.{Return, declined, done, soleLine, answered, called, entry}
 use Rattle.model.specs.Lists.{Event, perform, calls, run, answers, derivedNext, derivedAfter, derivedFrom}
 use Rattle.model.specs.Theorem.{asked, next}
-use Rattle.model.specs.Runs.{linesOf, lastOf, callsAmong, listOf, interleaved, lineAnswers, printedAll, JournalRuns, BatchesRun, Accepted, EntryReturns}
+use Rattle.model.specs.Runs.{linesOf, lastOf, callsAmong, listOf, interleaved, lineAnswers, printedAll, JournalRuns, BatchesRun, Accepted, Declined, no-image, no-call, not-accepted, no-room, EntryReturns}
 use Rattle.model.proofs.ListTheorem.{list-theorem}
 use Rattle.model.proofs.Edges.{fresh-formed}
 
@@ -100,39 +100,39 @@ batches-run =
 
 -- ---- one call from C
 
-declined-done : {A : Type 0} {n v : ℕ} {image : List ℕ} → declined n ≡ done v image → A
-declined-done e = let z : _≡_ {A = ℕ} 0 1 = cc in absurd (omega arith)
+module _ (image line : List ℕ) (room : ℕ) where
+  -- why q is returned
+  abbrev Why : Return → Type 0
+  Why (declined n) = Declined image line room n
+  Why (done v new) = (c : Call) × Accepted image line room v new c
 
-module _ (image line new : List ℕ) (room v : ℕ) (l : T (loads image)) (c : Call) (e : soleLine (split 10 line) ≡ some c) where
-  -- the answer a and the register z after it
-  by-answer : (a : Outcome) (z : Register) → asked (decode image) c ≡ a → next (decode image) c ≡ z → answered room a z ≡ done v new
-      → Accepted image line room v new c
-  by-answer (refused n) z ea ez h = declined-done h
-  by-answer (value w) z ea ez h = by-room (leb (length (encode z) + 2) room) refl h
-    where
-      by-room : (b : Bool) → leb (length (encode z) + 2) room ≡ b → cond b (done w (encode z)) (declined 16) ≡ done v new → Accepted image line room v new c
-      by-room false eb g = declined-done g
-      by-room true eb g =
-          let image-same : encode z ≡ new = cc in
-          let value-same : w ≡ v = cc in
-          record {
-            loaded = l;
-            said = e;
-            answer = ea ∙ ap value value-same;
-            saved = sym image-same ∙ ap encode (sym ez);
-            fits = subst (λ (s : List ℕ). length s + 2 ≤ room) image-same (leb-true _ _ eb);
-          }
+  module _ (l : T (loads image)) (c : Call) (e : soleLine (split 10 line) ≡ some c) where
+    -- a value of a call, by whether there is room
+    by-room : (v : ℕ) → asked (decode image) c ≡ value v → (b : Bool) → leb (length (encode (next (decode image) c)) + 2) room ≡ b
+        → Why (cond b (done v (encode (next (decode image) c))) (declined 16))
+    by-room v a true h = (c, record { loaded = l; said = e; answer = a; saved = refl; fits = leb-true _ _ h })
+    by-room v a false h = no-room l c v e a (leb-false _ _ h) refl
+
+    by-answer : (a : Outcome) → asked (decode image) c ≡ a → Why (answered room a (next (decode image) c))
+    by-answer (refused n) h = not-accepted l c e h
+    by-answer (value v) h = by-room v h _ refl
+
+  by-line : T (loads image) → (q : Option Call) → soleLine (split 10 line) ≡ q → Why (called room (decode image) q)
+  by-line l none e = no-call l e refl
+  by-line l (some c) e = by-answer l c e _ refl
+
+  by-image : (b : Bool) → loads image ≡ b
+      → Why (elim b as (λ x. Return) [ true ↦ called room (decode image) (soleLine (split 10 line)) | false ↦ declined 14 ])
+  by-image true e = by-line (true→T (loads image) e) _ refl
+  by-image false e = no-image (subst (λ (t : Bool). T (not t)) (sym e) tt) refl
+
+  why : Why (entry image line room)
+  unfolding entry
+  why = by-image (loads image) refl
 
 pub entry-returns : EntryReturns
-unfolding entry
-entry-returns image line new room v = by-image (loads image) refl
-  where
-    by-line : T (loads image) → (q : Option Call) → soleLine (split 10 line) ≡ q → called room (decode image) q ≡ done v new → (c : Call) × Accepted image line room v new c
-    by-line l none e h = declined-done h
-    by-line l (some c) e h = (c, by-answer image line new room v l c e _ _ refl refl h)
-
-    by-image : (b : Bool) → loads image ≡ b
-        → (elim b as (λ x. Return) [ true ↦ called room (decode image) (soleLine (split 10 line)) | false ↦ declined 14 ]) ≡ done v new
-        → (c : Call) × Accepted image line room v new c
-    by-image false e h = declined-done h
-    by-image true e h = by-line (true→T (loads image) e) (soleLine (split 10 line)) refl h
+entry-returns =
+    record {
+      value-returned = λ image line new room v e. subst (Why image line room) e (why image line room);
+      refusal-returned = λ image line room n e. subst (Why image line room) e (why image line room);
+    }

@@ -60,6 +60,18 @@ settle-answer {A} r (q ∷ rest) v s = cases (applies q) (settle-answer r rest v
     cases true e = refl
     cases false e = e
 
+-- two answers told apart
+pub value-refused : {A : Type 0} {v n : ℕ} → value v ≡ refused n → A
+value-refused e = let z : _≡_ {A = ℕ} 0 1 = cc in absurd (omega arith)
+
+-- refused, the state is as it was
+pub settle-stays : {A : Type 0} (r : A) (rs : List Guard) (v : ℕ) (s : A) {n : ℕ} → (settle r rs v s) .answer ≡ refused n → (settle r rs v s) .after ≡ r
+settle-stays {A} r rs v s {n} e = cases (settle-cases r rs v s)
+  where
+    cases : Settled r rs v s (settle r rs v s) → (settle r rs v s) .after ≡ r
+    cases (accepted h q) = value-refused (sym (ap (λ (x : Effect A). x .answer) q) ∙ e)
+    cases (declined m q) = ap (λ (x : Effect A). x .after) q
+
 -- refused whatever the value, or accepted whatever the value
 pub verdict-cases : (rs : List Guard) → (Clear rs × ((v : ℕ) → verdict rs v ≡ value v)) ⊎ ((n : ℕ) × ((v : ℕ) → verdict rs v ≡ refused n))
 verdict-cases [] = inl (tt, λ v. refl)
@@ -85,7 +97,7 @@ pub answer-refused : {A : Type 0} (r s : A) (rs : List Guard) (v : ℕ) {n : ℕ
 answer-refused {A} r s rs v {n} e = cases (settle-cases r rs v s) (sym (settle-answer r rs v s) ∙ refl)
   where
     cases : Settled r rs v s (settle r rs v s) → verdict rs v ≡ (settle r rs v s) .answer → record { answer = refused n; after = r } ≡ settle r rs v s
-    cases (accepted c p) a = let z : value v ≡ refused n = sym (clear-verdict rs v c) ∙ e in let w : _≡_ {A = ℕ} 0 1 = cc in absurd (omega arith)
+    cases (accepted c p) a = value-refused (sym (clear-verdict rs v c) ∙ e)
     cases (declined m p) a = ap (λ (x : Outcome). record { answer = x; after = r }) (sym e ∙ a ∙ ap (λ (x : Effect A). x .answer) p) ∙ sym p
 
 pub clear-settle : {A : Type 0} (r s : A) (rs : List Guard) (v : ℕ) → Clear rs → settle r rs v s ≡ record { answer = value v; after = s }

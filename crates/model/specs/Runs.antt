@@ -1,10 +1,11 @@
 -- What runs is a list of calls, so that `ListTheorem` speaks of it: a journal, batches one after the other, and a chain of calls
 -- from C. `proofs/Runs.antt` proves the first two and `EntryReturns`; crate `promise`, above the round trip of images, `EntryRuns`.
 use mathlib.Core.Path.{_≡_}
+use mathlib.Core.Bool.{not, cond}
 use mathlib.Core.List.{List, [], _∷_, _++_, map}
 use mathlib.Core.Option.{Option, none, some}
 use Prim.Native.Nat.{ℕ, _+_, _≤_, _<_}
-use lib.Dec.{T}
+use lib.Dec.{T, eqb}
 use lib.ListN.{length, take, drop}
 use Rattle.masks.specs.Bytes.{numberOf, firstBytes, split}
 use Rattle.model.specs.declared.Register.{Register}
@@ -84,9 +85,19 @@ pub record Accepted (image line : List ℕ) (room v : ℕ) (new : List ℕ) (c :
   pub saved : new ≡ encode (next (decode image) c)
   pub fits : length new + 2 ≤ room
 
--- a return of a value is of a call that the line says
-abbrev pub EntryReturns : Type 0
-EntryReturns = (image line new : List ℕ) (room v : ℕ) → entry image line room ≡ done v new → (c : Call) × Accepted image line room v new c
+-- why a refusal is returned (§11.2.1)
+pub data Declined (image line : List ℕ) (room n : ℕ) : Type 0 where
+  no-image : T (not (loads image)) → n ≡ 14 → Declined image line room n
+  no-call : T (loads image) → soleLine (split 10 line) ≡ none → n ≡ 1 → Declined image line room n
+  not-accepted : T (loads image) → (c : Call) → soleLine (split 10 line) ≡ some c → asked (decode image) c ≡ refused n → Declined image line room n
+  no-room : T (loads image) → (c : Call) (v : ℕ) → soleLine (split 10 line) ≡ some c → asked (decode image) c ≡ value v
+      → room < length (encode (next (decode image) c)) + 2 → n ≡ 16 → Declined image line room n
+
+pub record EntryReturns : Type 0 where
+  -- a return of a value is of a call that the line says
+  pub value-returned : (image line new : List ℕ) (room v : ℕ) → entry image line room ≡ done v new → (c : Call) × Accepted image line room v new c
+  -- a return of a refusal has one of four causes
+  pub refusal-returned : (image line : List ℕ) (room n : ℕ) → entry image line room ≡ declined n → Declined image line room n
 
 -- one call from C: a line, and the area that is lent
 pub record Invocation : Type 0 where
@@ -113,24 +124,34 @@ unfoldable pub chain : List ℕ → List Invocation → List ℕ
 chain image [] = image
 chain image (i ∷ more) = chain (keptImage image i) more
 
--- the list of a chain: the calls that were accepted
-abbrev pub addCall : Return → Option Call → List Call → List Call
-addCall (declined n) q cs = cs
-addCall (done v new) none cs = cs
-addCall (done v new) (some c) cs = c ∷ cs
+-- the call whose own answer is returned: the one that the line says, unless 16 stands in the place of its value
+abbrev pub callAnswered : Return → Option Call → Option Call
+callAnswered q none = none
+callAnswered (declined n) (some c) = cond (eqb n 16) none (some c)
+callAnswered (done v new) (some c) = some c
 
+-- what is returned, as an answer
+abbrev pub answerReturned : Return → Outcome
+answerReturned (declined n) = refused n
+answerReturned (done v new) = value v
+
+-- an item more where there is such a call
+abbrev pub addFor : {A : Type 0} → Option Call → (Call → A) → List A → List A
+addFor none item l = l
+addFor (some c) item l = item c ∷ l
+
+abbrev pub callBy : List ℕ → Invocation → Option Call
+callBy image i = callAnswered (invoked image i) (soleLine (split 10 (i .line)))
+
+-- the list of a chain: these calls, refused ones too
 unfoldable pub chainCalls : List ℕ → List Invocation → List Call
 chainCalls image [] = []
-chainCalls image (i ∷ more) = addCall (invoked image i) (soleLine (split 10 (i .line))) (chainCalls (keptImage image i) more)
+chainCalls image (i ∷ more) = addFor (callBy image i) (λ c. c) (chainCalls (keptImage image i) more)
 
--- the values that were returned
-abbrev pub addValue : Return → List Outcome → List Outcome
-addValue (declined n) told = told
-addValue (done v new) told = value v ∷ told
-
-unfoldable pub chainValues : List ℕ → List Invocation → List Outcome
-chainValues image [] = []
-chainValues image (i ∷ more) = addValue (invoked image i) (chainValues (keptImage image i) more)
+-- and what is returned to them
+unfoldable pub chainAnswers : List ℕ → List Invocation → List Outcome
+chainAnswers image [] = []
+chainAnswers image (i ∷ more) = addFor (callBy image i) (λ c. answerReturned (invoked image i)) (chainAnswers (keptImage image i) more)
 
 abbrev pub chainList : List ℕ → List Invocation → List Event
 chainList image is = calls (chainCalls image is)
@@ -143,7 +164,7 @@ pub record EntryRuns : Type 0 where
   pub loaded : (image : List ℕ) (is : List Invocation) → T (loads image) → T (loads (chain image is))
   pub register : (image : List ℕ) (is : List Invocation) → T (loads image) → decode (chain image is) ≡ run (decode image) (chainList image is)
   pub saved : (image : List ℕ) (is : List Invocation) → T (loads image) → chain image is ≡ encode (run (decode image) (chainList image is))
-  -- the values that were returned are the list's answers
-  pub answered : (image : List ℕ) (is : List Invocation) → T (loads image) → answers (decode image) (chainList image is) ≡ chainValues image is
+  -- what is returned to these calls are the list's answers, values and refusals
+  pub answered : (image : List ℕ) (is : List Invocation) → T (loads image) → answers (decode image) (chainList image is) ≡ chainAnswers image is
   -- so the guarantee holds of what C keeps
   pub guaranteed : (image : List ℕ) (is : List Invocation) → T (loads image) → Guarantee (decode (chain image is)) (derivedFrom (decode image) (chainList image is))

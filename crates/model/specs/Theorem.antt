@@ -17,9 +17,9 @@ use Rattle.model.specs.State.{fresh, authority, roleAuthority, inLife, s
 use Rattle.model.specs.Lineage.{Descends, Reaches}
 use Rattle.model.specs.Rules.{wellFormed}
 use Rattle.model.specs.Setters.{withRevoked, withCapabilities}
-use Rattle.model.specs.Rulings.{Outcome, value, role, capability, opened}
+use Rattle.model.specs.Rulings.{Outcome, value, refused, role, capability, opened}
 use Rattle.model.specs.Calls.{Call, check, revoke, step}
-use Rattle.model.specs.Lists.{Event, run, derivedFrom}
+use Rattle.model.specs.Lists.{Event, perform, run, derivedFrom}
 
 -- what a call answers, and the register after it
 abbrev pub asked : Register → Call → Outcome
@@ -125,3 +125,7 @@ ListTheorem =
 -- and it has a start
 abbrev pub FreshStart : Type 0
 FreshStart = T (wellFormed fresh)
+
+-- ---- what is refused: any call, save or load leaves the register as it was, also one that breaks a rule (§5.1.3)
+abbrev pub RefusalsStay : Type 0
+RefusalsStay = (r : Register) (e : Event) (n : ℕ) → (perform r e) .answer ≡ refused n → (perform r e) .after ≡ r

@@ -1,23 +1,24 @@
 -- A chain of calls from C is a list: an image that is returned is read again as the register that it was written of.
-use mathlib.Core.Path.{_≡_, refl, sym, ap, _∙_, subst}
+use mathlib.Core.Path.{_≡_, refl, sym, ap, ap₂, _∙_, subst}
+use mathlib.Core.Bool.{Bool, true, false, cond}
 use mathlib.Core.List.{List, [], _∷_, _++_, append-assoc}
-use mathlib.Core.Option.{Option}
+use mathlib.Core.Option.{Option, none, some}
 use Prim.Native.Nat.{ℕ, _≤_}
 use native.Mathlib.Omega.{arith}
-use lib.Dec.{T}
+use lib.Dec.{T, T-not, eqb}
 use lib.ListN.{length, take, drop}
 use lib.Seq.{drop-at, take-at}
 use Rattle.masks.specs.Bytes.{bytesOf, split}
 use Rattle.model.specs.declared.Register.{Register}
-use Rattle.model.specs.Rulings.{Outcome, value}
+use Rattle.model.specs.Rulings.{Outcome, value, refused}
 use Rattle.model.specs.Calls.{Call}
 use Rattle.model.specs.Image.{encode, decode, loads}
 use Rattle.model.specs.Entry.{Return, declined, done, soleLine, bufferAfter}
 use Rattle.model.specs.Lists.{call, calls, perform, run, answers, derivedFrom}
-use Rattle.model.specs.Theorem.{next, Guarantee}
-use Rattle.model.specs.Runs.{Accepted, Invocation, invoked, imageIn, imageAfter, chain, addCall, chainCalls, addValue, chainValues, chainList, EntryRuns}
+use Rattle.model.specs.Theorem.{asked, next, Guarantee}
+use Rattle.model.specs.Runs.{Accepted, Declined, no-image, no-call, not-accepted, no-room, Invocation, invoked, imageIn, imageAfter, chain, callAnswered, answerReturned, addFor, chainCalls, chainAnswers, chainList, EntryRuns}
 use Rattle.model.proofs.Rules.{kept←}
-use Rattle.model.proofs.Running.{step-keeps, loads-kept}
+use Rattle.model.proofs.Running.{step-keeps, loads-kept, refusals-stay}
 use Rattle.model.proofs.ListTheorem.{list-theorem}
 use Rattle.model.proofs.Runs.{entry-returns}
 use Rattle.image.specs.Laws.{ImageOf}
@@ -25,6 +26,11 @@ use Rattle.image.proofs.RoundTrip.{image-laws}
 use Rattle.fields.proofs.Numbers.{length-bytes, number-back}
 
 -- ---- one call
+
+-- a refused call leaves the register as it was
+refused-stays : (r : Register) (c : Call) {n : ℕ} → asked r c ≡ refused n → next r c ≡ r
+unfolding perform
+refused-stays r c {n} e = refusals-stay r (call c) n e
 
 -- an image at the front of an area, behind its length, is read from it
 image-read : (new area : List ℕ) (v : ℕ) → length new ≤ 13402 → imageIn (bufferAfter (done v new) area) ≡ new
@@ -52,55 +58,76 @@ module _ (image line new : List ℕ) (room v : ℕ) (c : Call) (a : Accepted ima
 -- ---- a chain
 
 -- what is kept is `kept`, and what follows it; the list and its answers start from the image
-abbrev Goes : (image kept : List ℕ) (more : List Invocation) (cs : List Call) (told : List Outcome) → Type 0
-Goes image kept more cs told =
-    T (loads (chain kept more)) × (decode (chain kept more) ≡ run (decode image) (calls cs)) × (answers (decode image) (calls cs) ≡ told)
+abbrev Goes : (image kept : List ℕ) (more : List Invocation) (cs : List Call) (answered : List Outcome) → Type 0
+Goes image kept more cs answered =
+    T (loads (chain kept more)) × (decode (chain kept more) ≡ run (decode image) (calls cs)) × (answers (decode image) (calls cs) ≡ answered)
 
 abbrev Chained : (image : List ℕ) (is : List Invocation) → Type 0
-Chained image is = Goes image image is (chainCalls image is) (chainValues image is)
+Chained image is = Goes image image is (chainCalls image is) (chainAnswers image is)
 
--- an accepted call before a chain on its image
-accepted-more : (image line new : List ℕ) (room v : ℕ) (c : Call) (more : List Invocation) → Accepted image line room v new c → Chained new more
-    → Goes image new more (c ∷ chainCalls new more) (value v ∷ chainValues new more)
+-- a call before a chain on the image that is kept of it
+call-before : (image kept : List ℕ) (c : Call) (a : Outcome) (more : List Invocation) → asked (decode image) c ≡ a → decode kept ≡ next (decode image) c
+    → Chained kept more → Goes image kept more (c ∷ chainCalls kept more) (a ∷ chainAnswers kept more)
 unfolding run answers perform
-accepted-more image line new room v c more a h =
-    let e : decode new ≡ next (decode image) c = new-register image line new room v c a in (
-      h .0,
-      h .1 ∙ ap (λ (r : Register). run r (chainList new more)) e,
-      ap (λ (o : Outcome). o ∷ answers (next (decode image) c) (chainList new more)) (a .answer)
-          ∙ ap (λ (l : List Outcome). value v ∷ l) (ap (λ (r : Register). answers r (chainList new more)) (sym e) ∙ h .2),
-    )
+call-before image kept c a more ea e h = (
+  h .0,
+  h .1 ∙ ap (λ (r : Register). run r (chainList kept more)) e,
+  ap₂ (λ (o : Outcome) (r : Register). o ∷ answers r (chainList kept more)) ea (sym e) ∙ ap (λ (l : List Outcome). a ∷ l) (h .2),
+)
 
 -- one call more, by what it returned
-call-more : (image : List ℕ) (i : Invocation) (more : List Invocation) (q : Return) → invoked image i ≡ q
-    → T (loads image) → ((kept : List ℕ) → T (loads kept) → Chained kept more) →
-    let kept : List ℕ = imageAfter image (i .area) q in
-    Goes image kept more (addCall q (soleLine (split 10 (i .line))) (chainCalls kept more)) (addValue q (chainValues kept more))
-call-more image i more (declined n) e h ih = ih image h
-call-more image i more (done v new) e h ih =
-    let room : ℕ = length (i .area) in
-    let found : (c : Call) × Accepted image (i .line) room v new c = entry-returns image (i .line) new room v e in
-    let c : Call = found .0 in
-    let a : Accepted image (i .line) room v new c = found .1 in
-    subst
-    (λ (kept : List ℕ). Goes image kept more (addCall (done v new) (soleLine (split 10 (i .line))) (chainCalls kept more)) (value v ∷ chainValues kept more))
-    (sym (image-read new (i .area) v (new-small image (i .line) new room v c a)))
-    (subst
-    (λ (s : Option Call). Goes image new more (addCall (done v new) s (chainCalls new more)) (value v ∷ chainValues new more))
-    (sym (a .said))
-    (accepted-more image (i .line) new room v c more a (ih new (new-loads image (i .line) new room v c a))))
+module _ (image : List ℕ) (i : Invocation) (more : List Invocation) (ih : (kept : List ℕ) → T (loads kept) → Chained kept more) where
+  abbrev line : List ℕ
+  line = i .line
+
+  abbrev room : ℕ
+  room = length (i .area)
+
+  abbrev More : List ℕ → Return → Option Call → Type 0
+  More kept q s = Goes image kept more (addFor (callAnswered q s) (λ c. c) (chainCalls kept more)) (addFor (callAnswered q s) (λ c. answerReturned q) (chainAnswers kept more))
+
+  -- a refusal, by its cause; that of a call is the list's, but for 16
+  refused-more : (n : ℕ) → T (loads image) → Declined image line room n → More image (declined n) (soleLine (split 10 line))
+  refused-more n h (no-image l e) = absurd (T-not (loads image) l h)
+  refused-more n h (no-call l s e) = subst (More image (declined n)) (sym s) (ih image h)
+  refused-more n h (no-room l c v s a m e) =
+      subst (More image (declined n)) (sym s) (subst (λ (k : ℕ). More image (declined k) (some c)) (sym e) (ih image h))
+  refused-more n h (not-accepted l c s a) = subst (More image (declined n)) (sym s) (by-number (eqb n 16))
+    where
+      before : Goes image image more (c ∷ chainCalls image more) (refused n ∷ chainAnswers image more)
+      before = call-before image image c (refused n) more a (sym (refused-stays (decode image) c a)) (ih image h)
+
+      by-number : (b : Bool) → let q : Option Call = cond b none (some c) in
+          Goes image image more (addFor q (λ c. c) (chainCalls image more)) (addFor q (λ c. refused n) (chainAnswers image more))
+      by-number true = ih image h
+      by-number false = before
+
+  accepted-more : (v : ℕ) (new : List ℕ) (c : Call) → Accepted image line room v new c
+      → More (imageIn (bufferAfter (done v new) (i .area))) (done v new) (soleLine (split 10 line))
+  accepted-more v new c a =
+      subst (λ (kept : List ℕ). More kept (done v new) (soleLine (split 10 line))) (sym (image-read new (i .area) v (new-small image line new room v c a)))
+      (subst
+      (More new (done v new))
+      (sym (a .said))
+      (call-before image new c (value v) more (a .answer) (new-register image line new room v c a) (ih new (new-loads image line new room v c a))))
+
+  call-more : (q : Return) → invoked image i ≡ q → T (loads image) → More (imageAfter image (i .area) q) q (soleLine (split 10 line))
+  call-more (declined n) e h = refused-more n h (entry-returns .refusal-returned image line room n e)
+  call-more (done v new) e h =
+      let found : (c : Call) × Accepted image line room v new c = entry-returns .value-returned image line new room v e in
+      accepted-more v new (found .0) (found .1)
 
 chained : (image : List ℕ) (is : List Invocation) → T (loads image) → Chained image is
-unfolding chain chainCalls chainValues run answers
+unfolding chain chainCalls chainAnswers run answers
 chained image [] h = (h, refl, refl)
-chained image (i ∷ more) h = call-more image i more (invoked image i) refl h (λ kept l. chained kept more l)
+chained image (i ∷ more) h = call-more image i more (λ kept l. chained kept more l) (invoked image i) refl h
 
 pub entry-runs : EntryRuns
 entry-runs =
     record {
       accepted = λ image line area new v e.
           let room : ℕ = length area in
-          let found : (c : Call) × Accepted image line room v new c = entry-returns image line new room v e in
+          let found : (c : Call) × Accepted image line room v new c = entry-returns .value-returned image line new room v e in
           let c : Call = found .0 in
           let a : Accepted image line room v new c = found .1 in
           (c, a, image-read new area v (new-small image line new room v c a), new-loads image line new room v c a, new-register image line new room v c a);

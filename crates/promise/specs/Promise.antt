@@ -6,7 +6,7 @@ use prog.Routine.{Routine}
 use ghost.Atoms.{Atoms}
 use base.Logic.{SProp}
 use contract.Monad.{Fun}
-use Rattle.model.specs.Theorem.{ListTheorem, FreshStart}
+use Rattle.model.specs.Theorem.{ListTheorem, FreshStart, RefusalsStay}
 use Rattle.model.specs.Runs.{JournalRuns, BatchesRun, EntryReturns, EntryRuns}
 use Rattle.model.specs.Edges.{Edges}
 use Rattle.model.specs.Listing.{Listing}
@@ -22,6 +22,8 @@ pub record Promise : Type 2 where
   pub list-theorem : ListTheorem
   -- a fresh register is a start for it
   pub fresh-start : FreshStart
+  -- what is refused leaves the register as it was, whatever that is (`model`, Theorem.antt)
+  pub refusals-stay : RefusalsStay
   -- what runs are such lists (`model`, Runs.antt): a journal, batches one after the other, and calls from C on the image kept
   pub journal-runs : JournalRuns
   pub batches-run : BatchesRun
