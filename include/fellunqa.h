@@ -85,7 +85,7 @@ enum fellunqa_refusal {
     /* create: life, limit or mask not within the origin's; allow, lend: more than the origin may give; amend: the use
      * limit would be above the origin's */
     FELLUNQA_EXCEEDS = 11,
-    /* create: all 256 places are taken */
+    /* create: 256 capabilities are there */
     FELLUNQA_FULL = 12,
     /* clock: the tick is before the clock */
     FELLUNQA_PAST = 13,
