@@ -23,4 +23,5 @@ call-cases =
       closed = computed refl;
       same-domain = computed refl;
       same-authority = computed refl;
+      last-of-ranges = computed refl;
     }

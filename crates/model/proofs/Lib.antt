@@ -20,6 +20,7 @@ pub mod Ranges
 pub mod RuleFacts
 pub mod Rules
 pub mod Running
+pub mod EachAnswer
 pub mod History
 pub mod Checks
 pub mod Revokes

@@ -1,6 +1,5 @@
 -- Every entry of a list, accepted or refused, keeps the shelf rules; and so does every list.
-use mathlib.Core.Path.{_≡_, sym, subst}
-use mathlib.Core.Bool.{_&&_}
+use mathlib.Core.Path.{sym, subst}
 use mathlib.Core.List.{List, [], _∷_}
 use Prim.Native.Nat.{ℕ}
 use lib.Dec.{T, ltb}
@@ -14,8 +13,7 @@ use Rattle.model.specs.Comparison.{sameRuling}
 use Rattle.model.specs.Calls.{Call, enrol, found, grant, withdraw, appoint, dismiss, clock, create, allow, lend, hand, opening, check, amend, revoke, close, same, ruling, settled, step}
 use Rattle.model.specs.Image.{encode, decode, loads, saveEffect, loadEffect}
 use Rattle.model.specs.Lists.{Event, call, save, load, perform, run}
-use Rattle.model.specs.Theorem.{RefusalsStay}
-use Rattle.model.proofs.Settling.{Settled, accepted, declined, settle-cases, settle-stays, step-settled}
+use Rattle.model.proofs.Settling.{Settled, accepted, declined, settle-cases, step-settled}
 use Rattle.model.proofs.Kept.{Kept}
 use Rattle.model.proofs.Rules.{kept→, kept←}
 use Rattle.model.proofs.Enrolling.{enrol-keeps, appoint-keeps, dismiss-keeps}
@@ -81,13 +79,6 @@ perform-keeps r (call c) k = step-keeps r c k
 perform-keeps r (save room) k =
     settle-keeps r (15 unless (wellFormed r ∷ []) ∷ 16 when ltb room (length (encode r)) ∷ []) (length (encode r)) r k (λ h. k)
 perform-keeps r (load s) k = settle-keeps r (14 unless (loads s ∷ []) ∷ []) 0 (decode s) k (λ h. loads-kept s (h .0 .0))
-
--- what is refused leaves the register as it was
-pub refusals-stay : RefusalsStay
-unfolding perform step saveEffect loadEffect
-refusals-stay r (call c) n = settle-stays r (15 unless (wellFormed r ∷ []) ∷ (ruling r c) .guards) ((ruling r c) .result) ((ruling r c) .after)
-refusals-stay r (save room) n = settle-stays r (15 unless (wellFormed r ∷ []) ∷ 16 when ltb room (length (encode r)) ∷ []) (length (encode r)) r
-refusals-stay r (load s) n = settle-stays r (14 unless (loads s ∷ []) ∷ []) 0 (decode s)
 
 pub run-keeps : (r : Register) (es : List Event) → Kept r → Kept (run r es)
 unfolding run

@@ -4,9 +4,9 @@ use mathlib.Core.Bool.{Bool, true, false, not, cond}
 use mathlib.Core.List.{List, [], _∷_, _++_, map, append-assoc}
 use mathlib.Core.Option.{Option, none, some}
 use Prim.Native.Nat.{ℕ, _+_, _≤_}
-use native.Mathlib.Omega.{arith}
 use borrow.Author.Tests.{le-leb, lt-leb, leb-true, leb-false}
-use lib.Dec.{T, leb}
+use native.Mathlib.Omega.{arith}
+use lib.Dec.{T, leb, lit≤}
 use lib.ListN.{length}
 use Rattle.masks.specs.Bytes.{split}
 use Rattle.masks.proofs.Truth.{true→T}
@@ -20,8 +20,11 @@ use Rattle.model.specs.Lines.{parse, printed}
 use Rattle.model.specs.Journal.{requested, lineEffect, unended, transcript, journal}
 use Rattle.model.specs.Entry.{Return, declined, done, soleLine, answered, called, entry}
 use Rattle.model.specs.Lists.{Event, perform, calls, run, answers, derivedNext, derivedAfter, derivedFrom}
-use Rattle.model.specs.Theorem.{asked, next}
-use Rattle.model.specs.Runs.{linesOf, lastOf, callsAmong, listOf, interleaved, lineAnswers, printedAll, JournalRuns, BatchesRun, Accepted, Declined, no-image, no-call, not-accepted, no-room, EntryReturns}
+use Rattle.model.specs.Theorem.{asked, next, Guarantee}
+use Rattle.model.specs.Runs.{linesOf, lastOf, callsAmong, listOf, interleaved, lineAnswers, printedAll, JournalRuns, BatchesRun, Accepted, Declined, no-image, no-call, not-accepted, no-room, ReturnInBounds, EntryReturns}
+use Rattle.model.proofs.Rules.{kept←}
+use Rattle.model.proofs.Running.{loads-kept}
+use Rattle.model.proofs.EachAnswer.{Own, own-answer}
 use Rattle.model.proofs.ListTheorem.{list-theorem}
 use Rattle.model.proofs.Edges.{fresh-formed}
 
@@ -96,6 +99,11 @@ batches-run =
       register = run-append;
       answered = answers-append;
       derived = λ r first second. derived-append r first second (originAt (r .capabilities));
+      guaranteed = λ r first second h.
+          subst
+          (λ (d : ℕ → Origin). Guarantee (run (run r first) second) d)
+          (derived-append r first second (originAt (r .capabilities)))
+          (subst (λ (z : Register). Guarantee z (derivedFrom r (first ++ second))) (run-append r first second) (list-theorem r (first ++ second) h));
     }
 
 -- ---- one call from C
@@ -130,9 +138,20 @@ module _ (image line : List ℕ) (room : ℕ) where
   unfolding entry
   why = by-image (loads image) refl
 
+  -- what a return is, by why
+  bounded-return : (q : Return) → Why q → ReturnInBounds q
+  bounded-return (declined n) (no-image l e) = subst (λ (k : ℕ). ReturnInBounds (declined k)) (sym e) (lit≤ tt, lit≤ tt, λ f. omega (arith, f))
+  bounded-return (declined n) (no-call l s e) = subst (λ (k : ℕ). ReturnInBounds (declined k)) (sym e) (lit≤ tt, lit≤ tt, λ f. omega (arith, f))
+  bounded-return (declined n) (no-room l c v s a m e) = subst (λ (k : ℕ). ReturnInBounds (declined k)) (sym e) (lit≤ tt, lit≤ tt, λ f. omega (arith, f))
+  bounded-return (declined n) (not-accepted l c s a) =
+      let own : (1 ≤ n) × (n ≤ 13) = subst Own a (own-answer (decode image) c (kept← (decode image) (loads-kept image l))) in
+      (own .0, omega (arith, own .1), λ f. omega (arith, own .1, f))
+  bounded-return (done v new) (c, a) = subst Own (a .answer) (own-answer (decode image) c (kept← (decode image) (loads-kept image (a .loaded))))
+
 pub entry-returns : EntryReturns
 entry-returns =
     record {
       value-returned = λ image line new room v e. subst (Why image line room) e (why image line room);
       refusal-returned = λ image line room n e. subst (Why image line room) e (why image line room);
+      bounded = λ image line room. bounded-return image line room (entry image line room) (why image line room);
     }

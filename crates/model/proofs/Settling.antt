@@ -7,7 +7,7 @@ use Prim.Native.Nat.{ℕ}
 use lib.Dec.{T, T-not, not-T, eqb}
 use native.Mathlib.Omega.{arith}
 use Rattle.model.specs.declared.Register.{Register}
-use Rattle.masks.specs.Tests.{each, Each}
+use Rattle.masks.specs.Tests.{each}
 use Rattle.model.specs.Rules.{wellFormed}
 use Rattle.model.specs.Rulings.{Outcome, value, refused, Effect, Guard, _unless_, _when_, applies, number, Fact, Clear, settle, verdict}
 use Rattle.model.specs.Calls.{Call, ruling, settled, step}

@@ -7,7 +7,7 @@ use Rattle.model.specs.declared.Origin.{Origin}
 use Rattle.model.specs.declared.Origin.the-variants.{Role as ofRole, Capability as ofCapability}
 use Rattle.model.specs.declared.Role.{Role}
 use Rattle.model.specs.declared.Capability.{Capability}
-use Rattle.model.specs.State.{contextOf, newCapability}
+use Rattle.model.specs.State.{contextOf, planOf, newCapability}
 use Rattle.model.specs.Setters.{withAppointed}
 use Rattle.model.specs.Rulings.{value, refused, ruled}
 use Rattle.model.specs.Administration.{newRole, appointing}
@@ -185,3 +185,20 @@ pub record CallCases : Type 0 where
       ∷ lend 3 1 4 gets value 1
       ∷ same 0 1 gets value 1
       ∷ []))
+  -- the last number of each range is accepted, a life of one tick too; amend goes up to the origin's limit and no further
+  pub last-of-ranges : Answered (enrol 63 7 gets value 0
+      ∷ found 31 7 16777215 65535 65535 gets value 0
+      ∷ grant 31 0 gets value 0
+      ∷ grant 31 31 gets value 0
+      ∷ appoint 63 31 gets value 0
+      ∷ clock 4294967295 gets value 0
+      ∷ create 63 (ofRole 31) (contextOf 23 15 15) (planOf 4294967295 4294967295 65535 65535 65535 16777215 65535 65535) gets value 0
+      ∷ allow 63 0 2147483648 gets value 2147483648
+      ∷ lend 63 0 2147483648 gets value 2147483649
+      ∷ hand 63 63 0 gets value 1
+      ∷ opening 63 63 (ofCapability 0) (contextOf 23 15 15) gets value 0
+      ∷ check 63 31 gets value 1
+      ∷ amend 63 0 (lower 65535) gets value 0
+      ∷ amend 63 0 (raise 65535) gets value 65535
+      ∷ amend 63 0 (raise 1) gets refused 11
+      ∷ [])

@@ -1,6 +1,7 @@
 -- What runs is a list of calls, so that `ListTheorem` speaks of it: a journal, batches one after the other, and a chain of calls
 -- from C. `proofs/Runs.antt` proves the first two and `EntryReturns`; crate `promise`, above the round trip of images, `EntryRuns`.
 use mathlib.Core.Path.{_≡_}
+use mathlib.Core.Logic.{_≢_}
 use mathlib.Core.Bool.{not, cond}
 use mathlib.Core.List.{List, [], _∷_, _++_, map}
 use mathlib.Core.Option.{Option, none, some}
@@ -10,6 +11,7 @@ use lib.ListN.{length, take, drop}
 use Rattle.masks.specs.Bytes.{numberOf, firstBytes, split}
 use Rattle.model.specs.declared.Register.{Register}
 use Rattle.model.specs.State.{fresh}
+use Rattle.model.specs.Rules.{wellFormed}
 use Rattle.model.specs.Rulings.{Outcome, value, refused}
 use Rattle.model.specs.Calls.{Call}
 use Rattle.model.specs.Image.{encode, decode, loads}
@@ -74,6 +76,9 @@ pub record BatchesRun : Type 0 where
   pub answered : (r : Register) (first second : List Event) → answers r (first ++ second) ≡ answers r first ++ answers (run r first) second
   -- the origins by history go on from those of the first
   pub derived : (r : Register) (first second : List Event) → derivedFrom r (first ++ second) ≡ derivedAfter (run r first) second (derivedFrom r first)
+  -- so the guarantee holds behind the second
+  pub guaranteed : (r : Register) (first second : List Event) → T (wellFormed r)
+      → Guarantee (run (run r first) second) (derivedAfter (run r first) second (derivedFrom r first))
 
 -- ---- calls from C: `fellunqa::fellunqa_apply`
 
@@ -93,11 +98,17 @@ pub data Declined (image line : List ℕ) (room n : ℕ) : Type 0 where
   no-room : T (loads image) → (c : Call) (v : ℕ) → soleLine (split 10 line) ≡ some c → asked (decode image) c ≡ value v
       → room < length (encode (next (decode image) c)) + 2 → n ≡ 16 → Declined image line room n
 
+abbrev pub ReturnInBounds : Return → Type 0
+ReturnInBounds (declined n) = (1 ≤ n) × (n ≤ 16) × (n ≢ 15)
+ReturnInBounds (done v new) = v ≤ 4294967295
+
 pub record EntryReturns : Type 0 where
   -- a return of a value is of a call that the line says
   pub value-returned : (image line new : List ℕ) (room v : ℕ) → entry image line room ≡ done v new → (c : Call) × Accepted image line room v new c
   -- a return of a refusal has one of four causes
   pub refusal-returned : (image line : List ℕ) (room n : ℕ) → entry image line room ≡ declined n → Declined image line room n
+  -- a value has 32 bits, and a refusal is never 0: C tells one from the other by the sign. It never gets 15
+  pub bounded : (image line : List ℕ) (room : ℕ) → ReturnInBounds (entry image line room)
 
 -- one call from C: a line, and the area that is lent
 pub record Invocation : Type 0 where

@@ -1,8 +1,8 @@
 -- Document 01's third demand: one claim about every list of calls, refused ones included, from any register that keeps the
 -- shelf rules. `proofs/ListTheorem.antt` proves it. Lists may contain same, save and load too.
--- What runs is such a list (`Runs.antt`): `JournalRuns` by the contract of `player::journal`, `BatchesRun` by that of
--- `batch::apply_all`, `EntryReturns` and `EntryRuns` by that of `fellunqa::fellunqa_apply`; a list's save and load are `image::save`
--- and `image::load`. Crate `promise` has all of it in one record.
+-- What runs is such a list (`Runs.antt`): `JournalRuns` by the contracts of `player::journal` and, from a fresh register, of
+-- `terminal::play`, `BatchesRun` by that of `batch::apply_all`, `EntryReturns` and `EntryRuns` by that of
+-- `fellunqa::fellunqa_apply`; a list's save and load are `image::save` and `image::load`. Crate `promise` has all of it in one record.
 use mathlib.Core.Path.{_≡_}
 use mathlib.Core.Logic.{_↔_, _≢_}
 use mathlib.Core.Bool.{not}
@@ -126,6 +126,15 @@ ListTheorem =
 abbrev pub FreshStart : Type 0
 FreshStart = T (wellFormed fresh)
 
--- ---- what is refused: any call, save or load leaves the register as it was, also one that breaks a rule (§5.1.3)
-abbrev pub RefusalsStay : Type 0
-RefusalsStay = (r : Register) (e : Event) (n : ℕ) → (perform r e) .answer ≡ refused n → (perform r e) .after ≡ r
+-- ---- each answer by itself
+
+-- a value has 32 bits, and a refusal is one of the numbers of §5.2.1
+abbrev pub InBounds : Outcome → Type 0
+InBounds (value v) = v ≤ 4294967295
+InBounds (refused n) = (1 ≤ n) × (n ≤ 16)
+
+-- of any register, also one that breaks a rule
+pub record EachAnswer : Type 0 where
+  pub bounded : (r : Register) (c : Call) → InBounds (asked r c)
+  -- whatever is refused, a save or a load too, leaves the register as it was
+  pub refused-stays : (r : Register) (e : Event) (n : ℕ) → (perform r e) .answer ≡ refused n → (perform r e) .after ≡ r

@@ -18,7 +18,8 @@ use Rattle.model.specs.Lists.{call, calls, perform, run, answers, derivedFrom}
 use Rattle.model.specs.Theorem.{asked, next, Guarantee}
 use Rattle.model.specs.Runs.{Accepted, Declined, no-image, no-call, not-accepted, no-room, Invocation, invoked, imageIn, imageAfter, chain, callAnswered, answerReturned, addFor, chainCalls, chainAnswers, chainList, EntryRuns}
 use Rattle.model.proofs.Rules.{kept←}
-use Rattle.model.proofs.Running.{step-keeps, loads-kept, refusals-stay}
+use Rattle.model.proofs.Running.{step-keeps, loads-kept}
+use Rattle.model.proofs.EachAnswer.{each-answer}
 use Rattle.model.proofs.ListTheorem.{list-theorem}
 use Rattle.model.proofs.Runs.{entry-returns}
 use Rattle.image.specs.Laws.{ImageOf}
@@ -28,9 +29,9 @@ use Rattle.fields.proofs.Numbers.{length-bytes, number-back}
 -- ---- one call
 
 -- a refused call leaves the register as it was
-refused-stays : (r : Register) (c : Call) {n : ℕ} → asked r c ≡ refused n → next r c ≡ r
+call-stays : (r : Register) (c : Call) {n : ℕ} → asked r c ≡ refused n → next r c ≡ r
 unfolding perform
-refused-stays r c {n} e = refusals-stay r (call c) n e
+call-stays r c {n} e = each-answer .refused-stays r (call c) n e
 
 -- an image at the front of an area, behind its length, is read from it
 image-read : (new area : List ℕ) (v : ℕ) → length new ≤ 13402 → imageIn (bufferAfter (done v new) area) ≡ new
@@ -95,7 +96,7 @@ module _ (image : List ℕ) (i : Invocation) (more : List Invocation) (ih : (kep
   refused-more n h (not-accepted l c s a) = subst (More image (declined n)) (sym s) (by-number (eqb n 16))
     where
       before : Goes image image more (c ∷ chainCalls image more) (refused n ∷ chainAnswers image more)
-      before = call-before image image c (refused n) more a (sym (refused-stays (decode image) c a)) (ih image h)
+      before = call-before image image c (refused n) more a (sym (call-stays (decode image) c a)) (ih image h)
 
       by-number : (b : Bool) → let q : Option Call = cond b none (some c) in
           Goes image image more (addFor q (λ c. c) (chainCalls image more)) (addFor q (λ c. refused n) (chainAnswers image more))

@@ -1,6 +1,6 @@
 -- The whole promise, each part by the proof that its crate has of it.
 use Rattle.model.proofs.ListTheorem.{list-theorem}
-use Rattle.model.proofs.Running.{refusals-stay}
+use Rattle.model.proofs.EachAnswer.{each-answer}
 use Rattle.model.proofs.Runs.{journal-runs, batches-run, entry-returns}
 use Rattle.model.proofs.Edges.{fresh-formed, edges}
 use Rattle.model.proofs.Listing.{listing-played}
@@ -18,7 +18,7 @@ promise =
     record {
       list-theorem = list-theorem;
       fresh-start = fresh-formed;
-      refusals-stay = refusals-stay;
+      each-answer = each-answer;
       journal-runs = journal-runs;
       batches-run = batches-run;
       entry-returns = entry-returns;

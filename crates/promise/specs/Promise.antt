@@ -6,7 +6,7 @@ use prog.Routine.{Routine}
 use ghost.Atoms.{Atoms}
 use base.Logic.{SProp}
 use contract.Monad.{Fun}
-use Rattle.model.specs.Theorem.{ListTheorem, FreshStart, RefusalsStay}
+use Rattle.model.specs.Theorem.{ListTheorem, FreshStart, EachAnswer}
 use Rattle.model.specs.Runs.{JournalRuns, BatchesRun, EntryReturns, EntryRuns}
 use Rattle.model.specs.Edges.{Edges}
 use Rattle.model.specs.Listing.{Listing}
@@ -22,8 +22,8 @@ pub record Promise : Type 2 where
   pub list-theorem : ListTheorem
   -- a fresh register is a start for it
   pub fresh-start : FreshStart
-  -- what is refused leaves the register as it was, whatever that is (`model`, Theorem.antt)
-  pub refusals-stay : RefusalsStay
+  -- every answer has its bounds, and what is refused leaves the register as it was (`model`, Theorem.antt)
+  pub each-answer : EachAnswer
   -- what runs are such lists (`model`, Runs.antt): a journal, batches one after the other, and calls from C on the image kept
   pub journal-runs : JournalRuns
   pub batches-run : BatchesRun
