@@ -1,7 +1,8 @@
 #!/usr/bin/env bash
-# Lists every public function of the crates in crates.txt, what it requires and whether it ensures something, and holds the list to
-# tests/contracts.txt; with --write, writes that anew. A row is crate, module, function, the text of its requires or -, ensures or -,
-# with tabs between them. The last line is 'N passed, M failed'.
+# Lists every public function of the crates in crates.txt, what it requires and whether it ensures something, and every part of the
+# whole promise, and holds the list to tests/contracts.txt; with --write, writes that anew. A row is crate, module, function, the text of
+# its requires or -, ensures or -; or promise, its file, a part, the statement's name or -, part; with tabs between them. The last line is
+# 'N passed, M failed'.
 set -u
 cd "$(dirname "$0")/.." || exit 1
 export LC_ALL=C
@@ -44,6 +45,11 @@ for crate in $(sed -n 's/^\([a-z_0-9]*\):.*/\1/p' crates.txt); do
     rows "$crate" "$(sed 's/^\(lib\|main\)$/-/' <<<"$module")" "$file"
   done
 done > "$now"
+
+# the parts of the promise: a statement that stands on the part's own line is named
+for file in crates/promise/specs/{Promise,Contracts}.antt; do
+  sed -nE "s/^ +pub ([a-z-]+) : ([^ ({]*).*/promise\t$(basename "$file" .antt)\t\1\t\2\tpart/p" "$file" | sed 's/\t\t/\t-\t/'
+done >> "$now"
 if [ "${1:-}" = --write ]; then
   cp "$now" "$stored"
 fi
