@@ -79,16 +79,16 @@ static const char *meaning(int64_t refusal)
     static const char *const meanings[] = {
         [FELLUNQA_MALFORMED] = "the line is malformed",
         [FELLUNQA_RANGE] = "a number is out of its range",
-        [FELLUNQA_MISSING] = "a user, role, pass or session is not there",
+        [FELLUNQA_MISSING] = "a user, role, capability or session is not there",
         [FELLUNQA_UNCHANGED] = "nothing would change",
         [FELLUNQA_DOMAIN] = "user and role are of different domains",
         [FELLUNQA_FORBIDDEN] = "the user is not entitled to this",
-        [FELLUNQA_REVOKED] = "the pass is revoked",
-        [FELLUNQA_EXPIRED] = "the clock is outside the pass's life",
+        [FELLUNQA_REVOKED] = "the capability is revoked",
+        [FELLUNQA_EXPIRED] = "the clock is outside the capability's life",
         [FELLUNQA_CONTEXT] = "hour, place or device is not admitted",
         [FELLUNQA_EXHAUSTED] = "a limit is reached, or would fall below 0",
         [FELLUNQA_EXCEEDS] = "this exceeds what the origin has or may give",
-        [FELLUNQA_FULL] = "256 passes are there already",
+        [FELLUNQA_FULL] = "256 capabilities are there already",
         [FELLUNQA_PAST] = "the tick is before the clock",
         [FELLUNQA_IMAGE] = "the register is damaged",
         [FELLUNQA_BROKEN] = "the register breaks a rule",
@@ -279,12 +279,12 @@ int main(int argc, char **argv)
     if (status == DONE)
         status = ask_streams();
     if (status != DONE)
-        return status;
+        return (int)status;
     if (options.help)
-        return help();
+        return (int)help();
     status = gather(&batch, options.lines);
     if (status == DONE)
         status = run(&options, &batch);
     free(batch.bytes);
-    return status;
+    return (int)status;
 }

@@ -114,17 +114,17 @@ int main(int argc, char **argv)
     enum status status = parse(argc, argv, &options);
     if (status == DONE && options.help) {
         fputs(help, stdout);
-        return finish();
+        return (int)finish();
     }
     if (status == DONE)
         status = load(&store, options.path);
     if (status == DONE)
         status = decode(&store, &image);
     if (status != DONE)
-        return status;
+        return (int)status;
     if (options.dot)
         print_dot(stdout, &image);
     else
         print_text(stdout, &image);
-    return finish();
+    return (int)finish();
 }

@@ -8,6 +8,7 @@
 #include <string.h>
 #include <sys/file.h>
 #include <sys/stat.h>
+#include <sys/xattr.h>
 #include <unistd.h>
 
 #include "store.h"
@@ -86,7 +87,7 @@ static enum store_status set_names(struct store *store, const char *name)
         return refused(store, "this names no file");
     if (length >= end && strcmp(name + length - end, suffix) == 0)
         return refused(store, "a register may not be called so: the name is that of an unsaved one");
-    if (length + end > NAME_MAX)
+    if (length + end > STORE_NAME_MAX)
         return refused(store, "the name is too long");
     memcpy(store->name, name, length + 1);
     memcpy(store->unsaved, name, length);
@@ -135,6 +136,8 @@ static enum store_status read_image(struct store *store, int file)
         return refused(store, "this is a folder");
     if (!S_ISREG(there.st_mode))
         return refused(store, "this is not a file of bytes");
+    if (there.st_nlink == 0)
+        return refused(store, "it was replaced under this name; a mount of the file alone does not follow: mount its folder");
     ssize_t length = read_all(file, store->image, sizeof store->image);
     if (length < 0)
         return failed(store, "it cannot be read");
@@ -187,21 +190,31 @@ int64_t store_play(struct store *store, const uint8_t *line, size_t length)
 
 /* ---- saving */
 
+/* The name that Linux has for the access list of a file. Where there is one, the mode shows its mask as the group's. */
+static const char access_list[] = "system.posix_acl_access";
+
 /* The former file, asked only after a leftover is removed, which may be a second link to it. */
 static enum store_status look(struct store *store, struct stat *former)
 {
-    if (fstatat(store->folder, store->name, former, AT_SYMLINK_NOFOLLOW) != 0)
-        return failed(store, "it cannot be found again");
-    if (faccessat(store->folder, store->name, W_OK, AT_EACCESS) != 0)
+    int file = openat(store->folder, store->name, O_WRONLY | O_NOFOLLOW | O_NONBLOCK | O_CLOEXEC);
+    if (file < 0)
         return failed(store, "it may not be written");
-    if (former->st_nlink != 1)
-        return refused(store, "it has other hard links, which would keep the former register");
-    return STORE_DONE;
+    enum store_status status = STORE_DONE;
+    if (fstat(file, former) != 0)
+        status = failed(store, "it cannot be found again");
+    else if (former->st_nlink != 1)
+        status = refused(store, "it has other hard links, which would keep the former register");
+    else if (fgetxattr(file, access_list, NULL, 0) >= 0)
+        status = refused(store, "it has an access list, which would be lost");
+    close(file);
+    return status;
 }
 
-/* Gives the new file the former one's group and mode and, where the system permits it, owner. */
+/* Gives the new file the former one's group and mode and, where the system permits it, owner; no list of the folder's. */
 static int keep_access(int file, const struct stat *former)
 {
+    if (fremovexattr(file, access_list) != 0 && errno != ENODATA && errno != EOPNOTSUPP)
+        return -1;
     if (fchown(file, former->st_uid, former->st_gid) != 0 && fchown(file, (uid_t)-1, former->st_gid) != 0)
         return -1;
     return fchmod(file, former->st_mode & 07777);
@@ -241,7 +254,7 @@ static enum store_status replace(struct store *store)
 {
     struct stat former = {0};
     enum store_status status = STORE_DONE;
-    if (unlinkat(store->folder, store->unsaved, 0) != 0 && errno != ENOENT)
+    if (unlinkat(store->folder, store->unsaved, 0) != 0 && errno != ENOENT && errno != EROFS)
         return failed(store, "an unsaved register cannot be removed");
     if (!store->fresh)
         status = look(store, &former);
@@ -257,17 +270,18 @@ static enum store_status replace(struct store *store)
 
 enum store_status store_save(struct store *store)
 {
-    if (!store->changed)
-        return STORE_DONE;
-    enum store_status status = replace(store);
-    if (status != STORE_DONE)
-        return status;
-    store->fresh = false;
-    store->changed = false;
-    if (sync_all(store->folder) == 0)
-        return STORE_DONE;
-    failed(store, "the new register is in place, but its folder cannot be synced");
-    return STORE_UNSURE;
+    if (store->changed) {
+        enum store_status status = replace(store);
+        if (status != STORE_DONE)
+            return status;
+        store->fresh = false;
+        store->changed = false;
+        if (sync_all(store->folder) != 0) {
+            failed(store, "the new register is in place, but its folder cannot be synced");
+            store->unsure = true;
+        }
+    }
+    return store->unsure ? STORE_UNSURE : STORE_DONE;
 }
 
 void store_close(struct store *store)

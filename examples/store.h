@@ -18,19 +18,20 @@
  *   - Alone: from store_open to store_close no other process has a register of the same folder open; store_open waits.
  *     It would wait for this process too, so open one store at a time. The lock is flock on the folder. It ends with
  *     its process, however that ends; no file stands for it; and a rename in the folder does not move it. A child
- *     made by fork shares it. flock is not part of POSIX, but Linux, the BSDs and macOS have it.
+ *     made by fork shares it. flock is not part of POSIX, nor are the calls for access lists: this is for Linux.
  *   - One: symbolic links are followed before anything else, so all paths to a register are one register. A save
- *     would part a register that has several hard links, and is refused.
+ *     would part a register that has several hard links, and is refused; a file that was replaced behind a mount of
+ *     it alone is not read.
  *   - Nothing to clear away: a killed process leaves at most NAME.unsaved, which is never read or followed and which
- *     the next save removes. So NAME.unsaved is the store's; a register may not be called so.
- *   - Mode, group and, where the system permits it, owner stay those of the register. Access lists do not. If the
- *     group cannot stay, or the register or its folder may not be written, the save is refused. Lines that change
- *     nothing write nothing, and so need no more than leave to read.
+ *     the next save removes, or is refused where it may not. So NAME.unsaved is the store's; a register may not be
+ *     called so.
+ *   - Mode, group and, where the system permits it, owner stay those of the register. If the group cannot stay, if the
+ *     register has an access list, which would be lost, or if it or its folder may not be written, the save is refused.
+ *     Lines that change nothing write nothing, and so need no more than leave to read.
  */
 #ifndef STORE_H
 #define STORE_H
 
-#include <limits.h>
 #include <stdbool.h>
 #include <stddef.h>
 #include <stdint.h>
@@ -44,12 +45,15 @@ enum store_status {
     STORE_UNSURE   /* the new register is in place, but may not outlast a power cut */
 };
 
+enum { STORE_NAME_MAX = 255 };
+
 struct store {
     int folder; /* the descriptor of its folder, which is locked; -1 if there is none */
-    char name[NAME_MAX + 1];
-    char unsaved[NAME_MAX + 1];
+    char name[STORE_NAME_MAX + 1];
+    char unsaved[STORE_NAME_MAX + 1];
     bool fresh;   /* there is no register file yet */
-    bool changed; /* the image is not that of the register file */
+    bool changed; /* a line was accepted that changed the image since it was read or saved */
+    bool unsure;  /* the folder could not be synced after a save; no later sync makes up for that */
     size_t length;
     uint8_t image[FELLUNQA_IMAGE_MAX + 1]; /* one byte more than any image, so that a longer file is seen */
     const char *fault;                     /* what went wrong, if anything did */

@@ -15,7 +15,7 @@ fi
 read -ra libs <<< "${LIBS:-}"
 cc=${CC:-cc}
 cxx=${CXX:-c++}
-flags=(-g -O1 -Wall -Wextra -Werror -pedantic)
+flags=(-gdwarf-4 -O1 -Wall -Wextra -Werror -pedantic)
 work=$(mktemp -d)
 trap 'rm -rf "$work"' EXIT
 passed=0
@@ -139,8 +139,8 @@ is_folder() { start; mkdir "$reg"; refuses 1 'this is a folder' client "$reg" 'e
 no_access() { start; ln -s register "$reg"; refuses 1 'Too many levels' client "$reg" 'enrol 3 0'; }
 usage() { start; refuses 2 usage client; }
 
-# the kernel's own folders cannot be written by anybody
-unwritable() { start; refuses 1 folder client --new /proc/self/register 'enrol 3 0'; }
+# the kernel's own folders cannot be synced
+unsynced() { start; refuses 1 'folder cannot be synced' client --new /proc/self/register 'enrol 3 0'; }
 
 no_input() { filled && refuses 1 'standard input' client "$reg" < /; }
 closed_input() { filled && refuses 1 'standard input' client "$reg" <&-; }
@@ -184,7 +184,7 @@ client_checks() { # ROUND
   check "$1: a folder that is a file" no_name
   check "$1: a register file that is a folder" is_folder
   check "$1: a register file that cannot be opened" no_access
-  check "$1: a folder that cannot be written" unwritable
+  check "$1: a folder that cannot be synced" unsynced
   check "$1: a name too long" long_name
   check "$1: no arguments" usage
   check "$1: input that cannot be read" no_input

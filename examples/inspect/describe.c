@@ -113,6 +113,7 @@ void describe_session(const struct page *page, int level, const struct image *im
     begin(page, level);
     fprintf(page->to, "session %" PRIu64 ": user %" PRIu64, number, session->user);
     fprintf(page->to, " on %s %" PRIu64, kind_name(session->on), session->on.number);
-    fprintf(page->to, ", hour %" PRIu64 ", place %" PRIu64 ", device %" PRIu64, session->hour, session->place, session->device);
+    fprintf(page->to, ", hour %" PRIu64 ", place %" PRIu64, session->hour, session->place);
+    fprintf(page->to, ", device %" PRIu64, session->device);
     end(page);
 }

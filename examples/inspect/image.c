@@ -185,9 +185,11 @@ static bool stands(const struct image *image, struct image_origin origin, uint64
 /* An origin has the smaller number: so the way up from a capability ends at a role. */
 static void follow_origins(struct reader *reader, const struct image *image)
 {
+    reader->section = "capabilities";
     for (uint64_t number = 0; number < image->count; number++)
         if (!stands(image, image->capabilities[number].origin, number))
             refuse(reader, "origin", "it is not there");
+    reader->section = "sessions";
     for (uint64_t number = 0; number < IMAGE_SESSIONS; number++)
         if (image_has(image->open, number) && !stands(image, image->sessions[number].on, image->count))
             refuse(reader, "role or capability of a session", "it is not there");

@@ -3,7 +3,8 @@
  *
  *     static struct image image;
  *     struct image_fault fault;
- *     if (fellunqa_apply(bytes, length, NULL, 0, NULL, 0) == -FELLUNQA_MALFORMED && image_read(&image, bytes, length, &fault))
+ *     if (fellunqa_apply(bytes, length, NULL, 0, NULL, 0) == -FELLUNQA_MALFORMED &&
+ *         image_read(&image, bytes, length, &fault))
  *         printf("the clock stands at %" PRIu64 "\n", image.clock);
  *
  * The library is asked first: it alone tests that a register keeps its rules. image_read tests just what it needs to
@@ -83,7 +84,8 @@ struct image {
     struct image_session sessions[IMAGE_SESSIONS];
 };
 
-/* Why bytes could not be read: which field of which section, what is wrong with it, and the number of bytes before it. */
+/* Why bytes could not be read: which field of which section, what is wrong with it, and the number of bytes before it,
+ * which of an origin and of a session's role or capability are all. */
 struct image_fault {
     const char *section;
     const char *field;

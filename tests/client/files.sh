@@ -1,5 +1,5 @@
-# Sourced by tests/client.sh: how the client is called, and what it does with files: links, modes, owners, leftovers, outputs
-# that fail, a full disk. A check that this machine cannot make is named as not run.
+# Sourced by tests/client.sh: how the client is called, and what it does with files: links, modes, owners, access lists, leftovers,
+# outputs that fail, mounts, a full disk. A check that this machine cannot make is named as not run.
 
 # ---- how it is called
 
@@ -86,6 +86,9 @@ links() {
     [ "$(ls -A "$work/folder/other")" = far ] && [ -L "$work/folder/other/far" ]
 }
 
+# opened, it would wait for somebody who writes into it
+is_pipe() { start; mkfifo "$work/fifo"; refuses 1 'not a file of bytes' timeout 20 "${runner[@]}" "$work/client" "$work/fifo" 'same 0 0'; }
+
 nowhere() { start; ln -s none "$work/folder/link"; refuses 1 'No such file' client "$work/folder/link" 'enrol 3 0'; }
 
 # a register with a second hard link may be asked, but not changed
@@ -148,7 +151,7 @@ no_new() { # COMMAND..
 
 # the superuser may be barred from this too
 may_be_other() {
-  : > "$work/owned" && chown 54321:12345 "$work/owned" && setpriv --reuid 54321 --regid 12345 --clear-groups true
+  chmod 711 "$work" && : > "$work/owned" && chown 54321:12345 "$work/owned" && other --help > /dev/null
 }
 
 owner_checks() {
@@ -158,9 +161,8 @@ owner_checks() {
     check 'files: a new register in a folder that may not be written' no_new client
     echo 'not run: owners, as only the superuser may change them'
   elif ! may_be_other 2> /dev/null; then
-    echo 'not run: owners and folders that may not be written, as setpriv and chown do not work here'
+    echo 'not run: owners and folders that may not be written, as no other user can run the client here'
   else
-    chmod 711 "$work"
     check 'files: a register that may not be written' read_only 777 444 other
     check 'files: a folder that may not be written' read_only 755 666 other
     check 'files: a new register in a folder that may not be written' no_new other
@@ -168,6 +170,36 @@ owner_checks() {
     check 'files: owner and group kept' owners
     check 'files: another user of the group' colleague
     check 'files: a user who is not of the group' stranger
+  fi
+}
+
+# ---- access lists: read and write for the owner, for user 54321 and for nobody else
+
+give_list() { # FILE access|default
+  python3 -c 'import os, struct, sys
+entries = [(1, 6, 2**32 - 1), (2, 6, 54321), (4, 0, 2**32 - 1), (16, 6, 2**32 - 1), (32, 0, 2**32 - 1)]
+os.setxattr(sys.argv[1], "system.posix_acl_" + sys.argv[2], struct.pack("<I", 2) + b"".join(struct.pack("<HHI", *e) for e in entries))' "$@"
+}
+has_list() { python3 -c 'import os, sys; sys.exit("system.posix_acl_access" not in os.listxattr(sys.argv[1]))' "$1"; }
+
+# it is not changed: the new file would have the list's mask as the rights of its group, and no list
+listed() {
+  filled && chmod 600 "$reg" && give_list "$reg" access && refuses 1 'access list' client "$reg" 'enrol 3 0' && has_list "$reg" &&
+    client "$reg" 'same 0 0' | cmp - <(echo 'ok 1')
+}
+# a list that the folder has for new files is not taken over
+listed_folder() {
+  filled && give_list "$work/folder" default && client "$reg" 'enrol 3 0' && ! has_list "$reg" && [ "$(stat -c %a "$reg")" = 600 ]
+}
+
+list_checks() {
+  start
+  : > "$work/folder/file"
+  if give_list "$work/folder/file" access 2> /dev/null; then
+    check 'files: a register with an access list' listed
+    check 'files: a folder with an access list for new files' listed_folder
+  else
+    echo 'not run: access lists, as there is no python3 or no such lists here'
   fi
 }
 
@@ -200,6 +232,12 @@ former_lock() {
 closed_error() { client "$reg" 'enrol 3 0' 2>&-; local status=$?; echo "status $status" >&2; return "$status"; }
 no_error() { filled && refuses 1 '^status 1$' closed_error; }
 
+unsure() {
+  start
+  "$cc" -std=c11 "${flags[@]}" -Iinclude -Iexamples -Dfsync=failing_fsync -o "$work/unsure" tests/client/unsure.c examples/store.c "$LIB" \
+    "${libs[@]}" && "$work/unsure" "$reg" && ends_with <(printf 'enrol %d 0\n' 1 2) register
+}
+
 # a pipe that nobody reads any more
 to_nobody() {
   rm -f "$work/pipe"
@@ -229,6 +267,14 @@ untouched() {
     [ "$(stat -c '%i' "$reg")" != "${before%% *}" ]
 }
 
+# a mount of the file alone keeps the former register when another one takes its place
+mounted() {
+  filled && mkdir "$work/folder/sub" && : > "$work/folder/sub/alone" || return 1
+  unshare -rm bash -c 'mount --bind "$1" "$2" && "${@:3}" "$1" "enrol 3 0" && "${@:3}" "$2" "same 0 0"; echo "status $?"' - \
+    "$reg" "$work/folder/sub/alone" "${runner[@]}" "$work/client" 2>&1 | sed 's/: it was replaced.*mount its folder$/: replaced/' |
+    diff - <(echo 'ok 0'; echo "client: $work/folder/sub/alone: replaced"; echo 'status 1')
+}
+
 # a file system of two pages, which the register fills
 on_full_disk() { # FOLDER COMMAND..
   unshare -rm bash -c 'mount -t tmpfs -o size=8k none "$1" && cp "$1.register" "$1/register" && "${@:2}"; echo "status $?"
@@ -253,9 +299,11 @@ file_checks() {
   check 'usage: the example in docs/LIBRARY.md' in_text
   check 'files: several paths, one register' links
   check 'files: a link that leads nowhere' nowhere
+  check 'files: a named pipe' is_pipe
   check 'files: a second hard link' hard_link
   check 'files: mode kept' modes
   owner_checks
+  list_checks
   check 'files: a leftover' leftover left_file 644
   check 'files: a leftover without any permission' leftover left_file 0
   check 'files: a leftover that is a link to another file' leftover left_link victim
@@ -266,12 +314,14 @@ file_checks() {
   check 'files: a leftover that is a folder' left_folder
   check 'files: the lock of an earlier client' former_lock
   check 'files: lines that change nothing' untouched
+  check 'files: a folder that cannot be synced after a save' unsure
   check 'output: standard error closed' no_error
   check 'output: a pipe that nobody reads' unshown to_nobody
   check 'output: a reader that goes' hang_up
   if unshare -rm mount -t tmpfs -o size=8k none "$work" 2> /dev/null; then
     check 'files: a full disk' full_disk
+    check 'files: a mount of the file alone' mounted
   else
-    echo 'not run: a full disk, as a file system of its own may not be mounted'
+    echo 'not run: a full disk and a mount of the file alone, as nothing may be mounted'
   fi
 }

@@ -122,13 +122,20 @@ cat > "$work/meet.BC" << 'END'
 exec sh "$work/meet" B "$work/steps" "$(cat "$work/call")" go 'sh "$work/meet.C"' "$work/client" "$work/other/link" 'enrol 4 0'
 END
 
+cat > "$work/meet.new" << 'END'
+exec sh "$work/meet" B "$work/client" --new "$work/folder/register" 'enrol 4 0'
+END
+
 # it has ended, or does so now that nobody is held, and its line is played
-played() { # NAME
+ended() { # NAME
   local n=0
   until [ -e "$work/status.$1" ] || [ "$n" -eq 2000 ]; do
     sleep 0.005
     n=$((n + 1))
   done
+}
+played() { # NAME
+  ended "$1"
   [ "$(cat "$work/status.$1")" = 0 ] && cmp "$work/out.$1" <(echo 'ok 0')
 }
 
@@ -175,6 +182,28 @@ met_waiting() {
   [ "$call" -gt $((first + 10)) ]
 }
 
+# two that would make one register: one of them makes it whole, and the other is told that it is there
+met_making() {
+  local call=1 seen=' ' now status
+  meeting && rm -f "$work/made.B" && "$work/client" --new "$work/made" 'enrol 2 0' 'enrol 3 0' > /dev/null &&
+    "$work/client" --new "$work/made.B" 'enrol 4 0' > /dev/null || return 1
+  while :; do
+    rm -f "$reg"
+    hold "$call" go "sh '$work/meet.new'" --new "$reg" || return 1
+    [ "$status" -ne 64 ] || break
+    ended B
+    now=$status:$(cat "$work/status.B"):$(which_image made made.B)
+    case $now in
+      0:1:made) grep -q already "$work/out.B" ;;
+      1:0:made.B) grep -q already "$work/err" ;;
+      *) false ;;
+    esac && [ "$(ls -A "$work/folder")" = register ] || { wrong "met at call $call while it makes a register: $now"; return 1; }
+    seen+="$now "
+    call=$((call + 1))
+  done
+  all_seen "$seen" 0:1:made 1:0:made.B
+}
+
 # ---- the system's answer to one call is a fault
 
 # each call of a run: its name, and which of this name it is
@@ -193,22 +222,29 @@ fail_call() { # FAULT NAME NUMBER
   grep -q INJECTED "$work/trace"
 }
 
-# what may be of a run that met a fault: its status and the register; a failed lock, read, write, sync or rename is told
+# what may be of a run that met a fault: its status and the register; a failed lock, read, write, sync or rename is told, and an
+# interrupted lock, sync, read or write of the register is tried again
 fits() { # STATUS:IMAGE FAULT NAME
-  case $2:$3:$1 in EIO:flock:0:* | EIO:read:0:* | EIO:write:0:* | EIO:fsync:0:* | EIO:rename*:0:*) return 1 ;; esac
+  case $2:$3:$1 in
+    EIO:flock:0:* | EIO:read:0:* | EIO:write:0:* | EIO:fsync:0:* | EIO:rename*:0:*) return 1 ;;
+    EINTR:flock:0:A | EINTR:fsync:0:A | EINTR:write:[04]:A) ;;
+    EINTR:flock:* | EINTR:fsync:* | EINTR:write:*) return 1 ;;
+    EINTR:read:1:none) return 1 ;;
+  esac
   case $1 in
     0:A) cmp "$work/out" <(printf 'ok 0\nok 0\n') ;;
     1:none | 4:A) [ ! -s "$work/out" ] && grep -q '^client: ' "$work/err" ;;
-    127:none | 1[0-9][0-9]:none) [ ! -s "$work/out" ] ;; # the program could not be started
-    1[0-9][0-9]:A) cmp "$work/out" <(printf 'ok 0\nok 0\n') ;; # it could not be ended
+    127:none | 139:none) [ ! -s "$work/out" ] && { [ "$started" = no ] || [ "$3" = brk ]; } ;; # the program could not be started
+    1[0-9][0-9]:A) [ "$3" = exit_group ] && cmp "$work/out" <(printf 'ok 0\nok 0\n') ;; # it could not be ended
     *) false ;;
   esac
 }
 
 failed_each() { # FAULT
-  local seen=' ' now status name number
+  local seen=' ' now status name number started=no
   images && calls > "$work/calls" || return 1
   while read -r name number; do
+    if [ "$name" = fcntl ]; then started=yes; fi # the first call that the client makes itself, but for two signals
     fail_call "$1" "$name" "$number" || { wrong "$name $number does not get $1"; return 1; }
     now=$(which_image none A)
     fits "$status:$now" "$1" "$name" || { wrong "$1 of $name $number: the register is $now"; return 1; }
@@ -220,15 +256,37 @@ failed_each() { # FAULT
   all_seen "$seen" 0:A 1:none 4:A
 }
 
+# the same while it makes a register: it is whole or not there, and its answers are shown only if it is there
+failed_making() { # FAULT
+  local name number now status
+  images && "$work/client" --new "$work/made" 'enrol 2 0' 'enrol 3 0' > /dev/null &&
+    strace -o "$work/trace" "$work/client" --new "$reg" 'enrol 2 0' 'enrol 3 0' > "$work/out" || return 1
+  awk -F '(' '/^[a-z]/ && !/^exec/ { print $1, ++count[$1] }' "$work/trace" > "$work/calls"
+  while read -r name number; do
+    rm -f "$reg"
+    strace -o "$work/trace" -e "inject=$name:error=$1:when=$number" \
+      "$work/client" --new "$reg" 'enrol 2 0' 'enrol 3 0' > "$work/out" 2> "$work/err"
+    status=$?
+    now=none
+    [ ! -e "$reg" ] || now=$(which_image made)
+    case $1:$name:$status:$now in
+      EIO:flock:0:* | EIO:write:0:* | EIO:fsync:0:* | EIO:linkat:0:* | EINTR:flock:[!0]:* | EINTR:fsync:[!0]:*) false ;;
+      *:0:made) cmp "$work/out" <(printf 'ok 0\nok 0\n') ;;
+      *:1:none | *:127:none | *:139:none | *:4:made) [ ! -s "$work/out" ] ;;
+      *) false ;;
+    esac || { wrong "$1 of $name $number while it makes a register: $now"; return 1; }
+  done < "$work/calls"
+}
+
 # written, synced, renamed, the folder synced, the lock given up, and only then shown
-order() {
-  images && cp "$work/none" "$reg" || return 1
-  strace -y -o "$work/trace" "$work/client" "$reg" 'enrol 2 0' 'enrol 3 0' > "$work/out" || return 1
+order() { # rename|link ARGUMENT..
+  images && { [ "$1" = link ] || cp "$work/none" "$reg"; } || return 1
+  strace -y -o "$work/trace" "$work/client" "${@:2}" "$reg" 'enrol 2 0' 'enrol 3 0' > "$work/out" || return 1
   sed -n -e 's/^flock(.*LOCK_EX.*= 0$/lock/p' -e 's/^fsync([0-9]*<[^>]*folder>) *= 0$/sync the folder/p' \
     -e 's/^write([0-9]*<[^>]*unsaved>.*/write/p' -e 's/^fsync([0-9]*<[^>]*unsaved>) *= 0$/sync the register/p' \
-    -e 's/^rename[^"]*"register.unsaved",[^"]*"register".*= 0$/rename/p' \
+    -e 's/^\(rename\|link\)[^"]*"register.unsaved",[^"]*"register".*= 0$/\1/p' \
     -e 's/^close([0-9]*<[^>]*folder>) *= 0$/unlock/p' -e 's/^write(1<.*/show/p' "$work/trace" |
-    diff - <(printf '%s\n' lock 'sync the folder' write 'sync the register' rename 'sync the folder' unlock show)
+    diff - <(printf '%s\n' lock 'sync the folder' write 'sync the register' "$1" 'sync the folder' unlock show)
 }
 
 # more lines, or more answers, than there is memory for: none is played
@@ -246,10 +304,11 @@ no_memory() { # WORDS LINE NUMBER
 # Each run raises a limit by three, line by line; what it shows, if anything, goes to shown.NAME. The time after which it is
 # killed is at random up to a bound that rises with each kill and falls with each run that ended, so that both are frequent.
 worker() { # NAME SEED
-  local run status bound=40
+  local run status tenths bound=40 # in tenths of a millisecond
   RANDOM=$2
   for run in {1..150}; do
-    timeout -s KILL "$(printf '0.%04d' $((RANDOM % bound + 1)))" \
+    tenths=$((RANDOM % bound + 1))
+    timeout -s KILL "$(printf '%d.%04d' $((tenths / 10000)) $((tenths % 10000)))" \
       "$work/client" "$reg" 'amend 3 0 1' 'amend 3 0 1' 'amend 3 0 1' > "$work/run.$1" 2>&1
     status=$?
     cat "$work/run.$1" >> "$work/shown.$1"
@@ -264,7 +323,7 @@ worker() { # NAME SEED
 # at every moment the file is a register
 watcher() {
   mkdir -p "$work/watched"
-  while [ ! -e "$work/stop" ]; do
+  while [ -d "$work/folder" ] && [ ! -e "$work/stop" ]; do
     cat "$reg" > "$work/watched/register" && "$work/client" "$work/watched/register" < /dev/null ||
       echo 'not a register' >> "$work/bad"
     echo seen >> "$work/copies"
@@ -316,6 +375,7 @@ kill_checks() {
     check 'kills: killed at each call while it makes a register' killed_making
     check 'kills: met at each call by a client on another path' met_each go
     check 'kills: met at each call after it has waited' met_waiting
+    check 'kills: two that make one register' met_making
     check 'kills: met at each call, and killed' met_each kill
   else
     echo 'not run: kills at each call, as no program may hold another'
@@ -326,7 +386,10 @@ kill_checks() {
   if strace -o /dev/null -e inject=fsync:error=EIO true 2> /dev/null; then
     check 'faults: EIO at each call' failed_each EIO
     check 'faults: EINTR at each call' failed_each EINTR
-    check 'order: saved before shown' order
+    check 'faults: EIO at each call while it makes a register' failed_making EIO
+    check 'faults: EINTR at each call while it makes a register' failed_making EINTR
+    check 'order: saved before shown' order rename
+    check 'order: made before shown' order link --new
   else
     echo 'not run: faults at each call, and their order, as there is no strace'
   fi
