@@ -12,7 +12,7 @@
 .POSIX:
 
 # the version of include/fellunqa.h; tests/commands.sh holds the two equal
-VERSION = 0.1.0
+VERSION = 0.1.1
 PREFIX = /usr/local
 DESTDIR =
 ROOT = $(DESTDIR)$(PREFIX)
@@ -39,7 +39,7 @@ $(JOURNAL):
 	rt check journal
 
 install: $(LIB) $(JOURNAL)
-	mkdir -p '$(ROOT)/lib/pkgconfig' '$(ROOT)/include' '$(ROOT)/bin' '$(ROOT)/share/man/man1'
+	umask 022; mkdir -p '$(ROOT)/lib/pkgconfig' '$(ROOT)/include' '$(ROOT)/bin' '$(ROOT)/share/man/man1'
 	install -m 644 '$(LIB)' '$(ROOT)/lib/libfellunqa.a'
 	install -m 644 include/fellunqa.h '$(ROOT)/include/fellunqa.h'
 	sed -e 's|@PREFIX@|$(PREFIX)|' -e 's|@VERSION@|$(VERSION)|' fellunqa.pc.in > '$(ROOT)/lib/pkgconfig/fellunqa.pc'

@@ -34,10 +34,10 @@
  * image does not say its version: keep this text beside it, and see CHANGELOG.md before a library of another second
  * number reads it.
  */
-#define FELLUNQA_VERSION "0.1.0"
+#define FELLUNQA_VERSION "0.1.1"
 #define FELLUNQA_VERSION_MAJOR 0
 #define FELLUNQA_VERSION_MINOR 1
-#define FELLUNQA_VERSION_PATCH 0
+#define FELLUNQA_VERSION_PATCH 1
 
 #ifdef __cplusplus
 extern "C" {
