@@ -171,4 +171,4 @@ refused-stays r (save room) n = settle-stays r (15 unless (wellFormed r ∷ []) 
 refused-stays r (load s) n = settle-stays r (14 unless (loads s ∷ []) ∷ []) 0 (decode s)
 
 pub each-answer : EachAnswer
-each-answer = record { bounded = answer-bounded; refused-stays = refused-stays }
+each-answer = record { in-bounds = answer-bounded; refused-stays = refused-stays }

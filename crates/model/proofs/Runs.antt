@@ -153,5 +153,5 @@ entry-returns =
     record {
       value-returned = λ image line new room v e. subst (Why image line room) e (why image line room);
       refusal-returned = λ image line room n e. subst (Why image line room) e (why image line room);
-      bounded = λ image line room. bounded-return image line room (entry image line room) (why image line room);
+      return-in-bounds = λ image line room. bounded-return image line room (entry image line room) (why image line room);
     }

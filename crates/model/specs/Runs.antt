@@ -108,7 +108,7 @@ pub record EntryReturns : Type 0 where
   -- a return of a refusal has one of four causes
   pub refusal-returned : (image line : List ℕ) (room n : ℕ) → entry image line room ≡ declined n → Declined image line room n
   -- a value has 32 bits, and a refusal is never 0: C tells one from the other by the sign. It never gets 15
-  pub bounded : (image line : List ℕ) (room : ℕ) → ReturnInBounds (entry image line room)
+  pub return-in-bounds : (image line : List ℕ) (room : ℕ) → ReturnInBounds (entry image line room)
 
 -- one call from C: a line, and the area that is lent
 pub record Invocation : Type 0 where
@@ -135,7 +135,7 @@ unfoldable pub chain : List ℕ → List Invocation → List ℕ
 chain image [] = image
 chain image (i ∷ more) = chain (keptImage image i) more
 
--- the call whose own answer is returned: the one that the line says, unless 16 stands in the place of its value
+-- the call whose own answer is returned (§7.3.3): the one that the line says, unless 16 stands in the place of its value
 abbrev pub callAnswered : Return → Option Call → Option Call
 callAnswered q none = none
 callAnswered (declined n) (some c) = cond (eqb n 16) none (some c)

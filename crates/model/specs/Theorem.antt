@@ -1,5 +1,5 @@
--- Document 01's third demand: one claim about every list of calls, refused ones included, from any register that keeps the
--- shelf rules. `proofs/ListTheorem.antt` proves it. Lists may contain same, save and load too.
+-- The guarantee of §7.2: one claim about every list of calls, refused ones included, from any register that keeps the rules
+-- (§4). `proofs/ListTheorem.antt` proves it. Lists may contain same, save and load too.
 -- What runs is such a list (`Runs.antt`): `JournalRuns` by the contracts of `player::journal` and, from a fresh register, of
 -- `terminal::play`, `BatchesRun` by that of `batch::apply_all`, `EntryReturns` and `EntryRuns` by that of
 -- `fellunqa::fellunqa_apply`; a list's save and load are `image::save` and `image::load`. Crate `promise` has all of it in one record.
@@ -126,7 +126,7 @@ ListTheorem =
 abbrev pub FreshStart : Type 0
 FreshStart = T (wellFormed fresh)
 
--- ---- each answer by itself
+-- ---- each answer by itself (§5.1.2, §5.1.3)
 
 -- a value has 32 bits, and a refusal is one of the numbers of §5.2.1
 abbrev pub InBounds : Outcome → Type 0
@@ -135,6 +135,6 @@ InBounds (refused n) = (1 ≤ n) × (n ≤ 16)
 
 -- of any register, also one that breaks a rule
 pub record EachAnswer : Type 0 where
-  pub bounded : (r : Register) (c : Call) → InBounds (asked r c)
+  pub in-bounds : (r : Register) (c : Call) → InBounds (asked r c)
   -- whatever is refused, a save or a load too, leaves the register as it was
   pub refused-stays : (r : Register) (e : Event) (n : ℕ) → (perform r e) .answer ≡ refused n → (perform r e) .after ≡ r
