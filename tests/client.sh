@@ -15,7 +15,7 @@ fi
 read -ra libs <<< "${LIBS:-}"
 cc=${CC:-cc}
 cxx=${CXX:-c++}
-flags=(-gdwarf-4 -O1 -Wall -Wextra -Werror -pedantic)
+flags=(-gdwarf-4 -O1 -Wall -Wextra -Werror -pedantic) # version 4, as older valgrinds do not read what clang writes by itself
 work=$(mktemp -d)
 trap 'rm -rf "$work"' EXIT
 passed=0

@@ -84,8 +84,10 @@ struct image {
     struct image_session sessions[IMAGE_SESSIONS];
 };
 
-/* Why bytes could not be read: which field of which section, what is wrong with it, and the number of bytes before it,
- * which of an origin and of a session's role or capability are all. */
+/*
+ * Why bytes could not be read: which field of which section, what is wrong with it, and the number of bytes before it.
+ * Where an origin, or the role or capability of a session, is not there, that number is the length of the image.
+ */
 struct image_fault {
     const char *section;
     const char *field;
