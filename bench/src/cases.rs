@@ -1,6 +1,6 @@
 //! The calls of the entry point that are measured.
 
-use crate::registers::{creation, grown, with_passes, Shape, Size, FULL, HALF};
+use crate::registers::{creation, grown, with_passes, Shape, Size, FULL, HALF, TYPICAL};
 use reference::{encode, Register};
 use std::fs;
 use std::io;
@@ -32,6 +32,7 @@ pub fn calls() -> Vec<Case> {
         Case::new("fresh: check (refused, 3)", Register::fresh(), "check 0 4"),
         Case::new("fresh: enrol", Register::fresh(), "enrol 3 0"),
     ];
+    cases.extend(calls_on("typical", TYPICAL));
     cases.extend(calls_on("half", HALF));
     cases.extend(calls_on("full", FULL));
     cases
@@ -41,7 +42,7 @@ fn calls_on(name: &str, size: Size) -> Vec<Case> {
     let mut cases = vec![
         check(name, size),
         open(name, size),
-        Case::new(&format!("{name}: hand"), grown(size, Shape::Deep), "hand 3 2 100"),
+        hand(name, size),
     ];
     cases.extend(changes(name, size));
     cases
@@ -50,6 +51,12 @@ fn calls_on(name: &str, size: Size) -> Vec<Case> {
 fn check(name: &str, size: Size) -> Case {
     let line = format!("check {} 4", size.sessions - 1);
     Case::new(&format!("{name}: check"), grown(size, Shape::Deep), &line)
+}
+
+/// A second holder of pass 100, or of the last one.
+fn hand(name: &str, size: Size) -> Case {
+    let line = format!("hand 3 2 {}", 100.min(size.passes - 1));
+    Case::new(&format!("{name}: hand"), grown(size, Shape::Deep), &line)
 }
 
 /// The last session, opened on the pass of its number.

@@ -19,6 +19,8 @@ pub enum Shape {
     Wide,
 }
 
+/// What a small shop has.
+pub const TYPICAL: Size = Size { users: 10, roles: 4, passes: 20, sessions: 8 };
 pub const HALF: Size = Size { users: 32, roles: 16, passes: 128, sessions: 32 };
 pub const FULL: Size = Size { users: 64, roles: 32, passes: 256, sessions: 64 };
 
