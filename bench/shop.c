@@ -13,6 +13,9 @@ struct shop {
     sqlite3_stmt *statements[STATEMENTS];
 };
 
+/* pass p is in life (§3.3.2) */
+#define IN_LIFE "EXISTS (SELECT 1 FROM clock WHERE p.first <= tick AND tick < p.last)"
+
 static const char *const texts[STATEMENTS] = {
     [BEGIN] = "BEGIN",
     [COMMIT] = "COMMIT",
@@ -21,7 +24,7 @@ static const char *const texts[STATEMENTS] = {
         "SELECT CASE WHEN s.pass IS NULL"
         " THEN (SELECT r.permissions >> ?2 & 1 FROM role r JOIN appointed a ON a.role = r.id AND a.user = s.user"
         "   WHERE r.id = s.role)"
-        " ELSE (SELECT (SELECT tick FROM clock) BETWEEN p.first AND p.last AND (p.permissions >> ?2 & 1 OR"
+        " ELSE (SELECT " IN_LIFE " AND (p.permissions >> ?2 & 1 OR"
         "   EXISTS (SELECT 1 FROM lent l JOIN role r ON r.id = l.role WHERE l.pass = p.id AND r.permissions >> ?2 & 1))"
         "   FROM pass p JOIN holder h ON h.pass = p.id AND h.user = s.user WHERE p.id = s.pass AND NOT p.revoked)"
         " END FROM session s WHERE s.id = ?1",
@@ -31,7 +34,7 @@ static const char *const texts[STATEMENTS] = {
         " WHEN EXISTS (SELECT 1 FROM session WHERE id = ?1) THEN 4"
         " WHEN NOT EXISTS (SELECT 1 FROM holder WHERE pass = p.id AND user = ?2) THEN 6"
         " WHEN p.revoked THEN 7"
-        " WHEN (SELECT tick FROM clock) NOT BETWEEN p.first AND p.last THEN 8"
+        " WHEN NOT " IN_LIFE " THEN 8"
         " WHEN NOT (p.hours >> ?4 & p.places >> ?5 & p.devices >> ?6 & 1) THEN 9"
         " WHEN p.uses >= p.use_limit THEN 10"
         " ELSE 0 END FROM pass p WHERE p.id = ?3",
@@ -44,7 +47,7 @@ static const char *const texts[STATEMENTS] = {
         " WHEN NOT (p.permissions & 1 OR EXISTS (SELECT 1 FROM lent l JOIN role r ON r.id = l.role"
         "   WHERE l.pass = p.id AND r.permissions & 1)) THEN 6"
         " WHEN p.revoked THEN 7"
-        " WHEN (SELECT tick FROM clock) NOT BETWEEN p.first AND p.last THEN 8"
+        " WHEN NOT " IN_LIFE " THEN 8"
         " WHEN NOT (p.hours >> ?3 & p.places >> ?4 & p.devices >> ?5 & 1) THEN 9"
         " WHEN p.creations >= p.creation_limit THEN 10"
         " WHEN ?6 < p.first OR ?7 > p.last OR ?8 > p.use_limit OR ?9 > p.creation_limit OR ?10 > p.hop_limit"

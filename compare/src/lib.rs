@@ -3,6 +3,7 @@
 //! All inputs are random and seeded: a seed gives the same inputs everywhere.
 
 pub mod answers;
+pub mod borders;
 pub mod registers;
 pub mod requests;
 pub mod tally;

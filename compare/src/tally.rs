@@ -37,6 +37,14 @@ impl Tally {
         }
     }
 
+    /// One more failure if something occurred less often than it must.
+    pub fn require_often(&mut self, occurred: u64, least: u64, what: &str) {
+        if occurred < least {
+            println!("this occurred {occurred} times, of at least {least}: {what}");
+            self.failed += 1;
+        }
+    }
+
     /// Prints the closing line.
     pub fn finish(&self) -> ExitCode {
         println!("{} passed, {} failed", self.passed, self.failed);

@@ -1,13 +1,17 @@
 //! Generators for tests and comparisons, all driven by a seeded
 //! [`crate::random::Random`]: requests that are mostly meaningful, registers
-//! that keep the rules, and damage to registers and images.
+//! that keep the rules, and damage to registers and images; and a count of the
+//! requests that meet the border of a life.
 
+pub mod borders;
 pub mod damage;
 mod draw;
+mod lives;
 pub mod profile;
 pub mod registers;
 pub mod requests;
 
+pub use borders::{Border, Borders};
 pub use damage::{damage_image, damage_register};
 pub use profile::Profile;
 pub use registers::register;

@@ -18,7 +18,7 @@ pub const DOMAINS_DIFFER: u8 = 5;
 pub const NOT_ENTITLED: u8 = 6;
 /// The capability named is revoked, as a role cannot be (§5.2.5).
 pub const REVOKED: u8 = 7;
-/// The clock is outside the life of the origin or target (§3.3.2).
+/// The origin or target is a capability and not in life (§3.3.2).
 pub const OUT_OF_LIFE: u8 = 8;
 /// The origin or target does not admit the context (§3.3.4).
 pub const NOT_ADMITTED: u8 = 9;

@@ -214,7 +214,7 @@ impl Register {
         }
     }
 
-    /// A role lends itself alone (§3.2.4), is always in life (§3.3.3), has the
+    /// A role lends itself alone (§3.2.4), leaves lives free (§3.3.3), has the
     /// largest limits and is never revoked (§3.3.5).
     fn role_bounds(&self, number: u8) -> Bounds {
         let role = self.role(number);
@@ -259,10 +259,17 @@ impl Register {
         }
     }
 
-    /// Whether the clock is in the life, ends included (§3.3.2, §3.3.3).
+    /// Whether it is in life now: a role always (§3.3.3), a capability once its
+    /// first tick has come and until its last one comes (§3.3.2). If the two are
+    /// equal, that is never (§4.3.4). Whatever asks for life asks here.
     pub fn in_life(&self, origin: Origin) -> bool {
-        let bounds = self.bounds(origin);
-        bounds.first <= self.clock && self.clock <= bounds.last
+        match origin {
+            Origin::Role(_) => true,
+            Origin::Capability(number) => {
+                let capability = self.capability(number);
+                capability.first <= self.clock && self.clock < capability.last
+            }
+        }
     }
 
     /// Whether all three masks have the context (§3.3.4).

@@ -122,7 +122,8 @@ fn content_within(capability: &Capability, bounds: &Bounds) -> bool {
         && (capability.revoked || !bounds.revoked)
 }
 
-/// Life and limits of §3.4.2, and the order of the two ticks (§4.3.4).
+/// Life and limits of §3.4.2, and the order of the two ticks, of which equal
+/// ones are in order too (§4.3.4). The clock is not asked.
 fn limits_within(capability: &Capability, bounds: &Bounds) -> bool {
     bounds.first <= capability.first
         && capability.first <= capability.last

@@ -4,8 +4,9 @@ mod common;
 #[path = "common/monitor.rs"]
 mod monitor;
 
+use common::assert_met;
 use monitor::{Monitor, Tally};
-use reference::generate::{self, Profile};
+use reference::generate::{self, Border, Profile};
 use reference::random::Random;
 use reference::request::WORDS;
 use reference::{encode, load, Register};
@@ -53,6 +54,12 @@ fn lists_of_few_users() {
     assert!(tally.changed_checks >= 100, "{tally:?}");
     assert!(tally.deep_yes >= 1_000, "{tally:?}");
     assert!(tally.depth >= 8, "{tally:?}");
+    assert_met(&tally.borders, Border::First, [50, 45, 10]);
+    assert_met(&tally.borders, Border::BeforeLast, [260, 180, 120]);
+    assert_met(&tally.borders, Border::Last, [100, 75, 50]);
+    assert_met(&tally.borders, Border::LastOfAll, [90, 70, 8]);
+    assert_met(&tally.borders, Border::Never, [40, 35, 0]);
+    assert_met(&tally.borders, Border::RoleAtEnd, [170, 130, 80]);
 }
 
 #[test]

@@ -51,21 +51,22 @@ fn e3_there_are_256_capabilities() {
 }
 
 #[test]
-fn e4_life_includes_its_end() {
+fn e4_life_excludes_its_end() {
     let mut register = with_capability();
-    accept_all(&mut register, &["clock 100"]);
+    accept_all(&mut register, &["clock 99"]);
     accepts(&register, "open 0 0 pass 0 9 0 0", 0);
-    accept_all(&mut register, &["clock 101"]);
+    accept_all(&mut register, &["clock 100"]);
     refuses(&register, "open 0 0 pass 0 9 0 0", 8);
 }
 
 #[test]
 fn e4_life_includes_its_start() {
     let mut register = after(&BASE);
-    let create = format!("create 0 role 0 9 0 0 7 7 2 9 9 {ALL}");
+    let create = format!("create 0 role 0 9 0 0 7 8 2 9 9 {ALL}");
     accept_all(&mut register, &["clock 6", &create, "hand 0 0 0"]);
     refuses(&register, "open 0 0 pass 0 9 0 0", 8);
-    accept_all(&mut register, &["clock 7", "open 0 0 pass 0 9 0 0"]);
+    accept_all(&mut register, &["clock 7"]);
+    accepts(&register, "open 0 0 pass 0 9 0 0", 0);
 }
 
 #[test]

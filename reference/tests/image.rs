@@ -238,6 +238,24 @@ fn fields_stand_in_the_order_of_their_bits() {
     assert_eq!((kept.hours, kept.places, kept.devices, kept.revoked), (9, 10, 11, true));
 }
 
+/// Equal ticks are in order (§4.3.4), and their bytes come back.
+#[test]
+fn a_life_without_a_tick_is_loaded_and_saved() {
+    for tick in [7, u32::MAX] {
+        let with_last = |last: u32| {
+            let fields = [tick.to_be_bytes(), last.to_be_bytes()].concat();
+            one_capability(0, 0, 0, 0b1_1000, &fields)
+        };
+        let image = with_last(tick);
+        let register = load(&image).unwrap();
+        let kept = &register.capabilities[0];
+        assert_eq!((kept.first, kept.last), (tick, tick));
+        assert_eq!(encode(&register), image);
+        assert_round_trip(&register);
+        assert!(!loads(&with_last(tick - 1)));
+    }
+}
+
 #[test]
 fn bits_14_and_15_of_the_map() {
     assert!(loads(&one_capability(0, 0, 0, 1 << 14, &[])));

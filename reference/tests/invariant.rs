@@ -165,6 +165,10 @@ fn life_limits_and_counts_of_a_capability() {
     assert_all_broken(&[
         ("starts before the origin", |r| r.capabilities[1].first = 4),
         ("ends after the origin", |r| r.capabilities[1].last = 101),
+        ("never in life, but after the origin", |r| {
+            r.capabilities[2].first = 51;
+            r.capabilities[2].last = 51;
+        }),
         ("first above last", |r| r.capabilities[4].first = 1),
         ("use limit", |r| r.capabilities[1].use_limit = 5),
         ("creation limit", |r| r.capabilities[1].creation_limit = 5),
@@ -212,7 +216,7 @@ fn sessions() {
 
 #[test]
 fn what_the_rules_do_not_forbid() {
-    let edits: [Edit; 15] = [
+    let edits: [Edit; 17] = [
         ("nothing changed", |_| ()),
         ("fresh", |r| *r = Register::fresh()),
         ("clock before all lives", |r| r.clock = 0),
@@ -226,6 +230,14 @@ fn what_the_rules_do_not_forbid() {
         }),
         ("a pass below is revoked", |r| r.capabilities[2].revoked = true),
         ("first is last", |r| r.capabilities[2].first = 50),
+        ("first is last, where the origin ends", |r| {
+            r.capabilities[4].first = u32::MAX;
+            r.capabilities[4].last = u32::MAX;
+        }),
+        ("the session's pass is never in life", |r| {
+            r.capabilities[2].first = 50;
+            r.sessions[1].on = Origin::Capability(2);
+        }),
         ("another creator", |r| r.capabilities[1].creator = 3),
         ("a role has more permissions", |r| r.roles[0].permissions = u32::MAX),
         ("just its role is lent", |r| r.capabilities[4].lent = 1),

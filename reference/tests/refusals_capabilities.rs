@@ -8,14 +8,15 @@ use common::{accept_all, accepts, perform, refuses, sample, ALL};
 use reference::{Origin, Register};
 
 /// The sample with 256 capabilities, in which capability 1 has no create, is
-/// revoked, out of life, open to hours 0 to 9 only, and at its creation limit.
+/// revoked, at its last tick and so out of life, open to hours 0 to 9 only, and
+/// at its creation limit.
 fn refusing_register() -> Register {
     let mut register = sample();
     let filler = format!("create 3 role 1 0 0 0 0 0 0 0 0 {ALL}");
     while register.count < 256 {
         accept_all(&mut register, &[&filler]);
     }
-    register.clock = 51;
+    register.clock = 50;
     for number in [1, 2] {
         register.capabilities[number].hours = 0x3ff;
         register.capabilities[number].revoked = true;
@@ -71,7 +72,7 @@ fn create_each_number_out_of_range() {
     refuses(&register, "create 0 role 0 9 0 0 0 9 1 1 1 16777216 65535 65535", 2);
     refuses(&register, "create 0 role 0 9 0 0 0 9 1 1 1 16777215 65536 65535", 2);
     refuses(&register, "create 0 role 0 9 0 0 0 9 1 1 1 16777215 65535 65536", 2);
-    accepts(&register, &format!("create 0 role 0 9 0 0 9 9 1 1 1 {ALL}"), 4);
+    accepts(&register, &format!("create 0 role 0 9 0 0 9 9 1 1 1 {ALL}"), 4); // never in life
 }
 
 #[test]
@@ -104,10 +105,14 @@ fn create_below_a_capability_stays_within_it() {
         format!("create 2 pass 1 9 1 1 {life} {limits} 16777215 65535 65535")
     };
     accepts(&register, &line("5 50", "3 2 1"), 4);
-    accepts(&register, &line("50 50", "0 0 0"), 4); // a life wholly to come
-    accepts(&register, &line("5 5", "0 0 0"), 4); // a life wholly past
+    accepts(&register, &line("49 50", "0 0 0"), 4); // a life wholly to come
+    accepts(&register, &line("5 10", "0 0 0"), 4); // a life that ends now
+    accepts(&register, &line("50 50", "0 0 0"), 4); // lives without a tick
+    accepts(&register, &line("5 5", "0 0 0"), 4);
     refuses(&register, &line("4 50", "3 2 1"), 11);
     refuses(&register, &line("5 51", "3 2 1"), 11);
+    refuses(&register, &line("4 4", "3 2 1"), 11);
+    refuses(&register, &line("51 51", "3 2 1"), 11);
     refuses(&register, &line("5 50", "4 2 1"), 11);
     refuses(&register, &line("5 50", "3 3 1"), 11);
     refuses(&register, &line("5 50", "3 2 2"), 11);

@@ -11,7 +11,7 @@ use reference::{apply, parse, Origin, Request, Session};
 fn open_in_order() {
     let mut register = sample();
     accept_all(&mut register, &["open 7 0 role 0 9 1 1"]);
-    register.clock = 51;
+    register.clock = 50; // the last tick of capabilities 1 and 2
     for number in [1, 2] {
         register.capabilities[number].hours = 0x3ff;
         register.capabilities[number].revoked = true;
@@ -31,11 +31,10 @@ fn open_in_order() {
     refuses(&register, "open 8 0 pass 1 23 1 1", 6);
     refuses(&register, "open 8 2 pass 1 23 1 1", 7);
     register.capabilities[1].revoked = false;
-    refuses(&register, "open 8 2 pass 1 23 1 1", 8);
-    register.clock = 4;
-    refuses(&register, "open 8 2 pass 1 23 1 1", 8);
-    register.clock = 5;
-    refuses(&register, "open 8 2 pass 1 23 1 1", 9);
+    for (clock, number) in [(50, 8), (4, 8), (49, 9), (5, 9)] {
+        register.clock = clock;
+        refuses(&register, "open 8 2 pass 1 23 1 1", number);
+    }
     refuses(&register, "open 8 2 pass 1 9 1 1", 10);
     register.capabilities[1].uses = 65_535; // above the limit
     refuses(&register, "open 8 2 pass 1 9 1 1", 10);
@@ -90,10 +89,10 @@ fn check_on_a_capability() {
     let mut other = register.clone();
     other.sessions[0].user = 2; // holds nothing
     accepts(&other, "check 0 5", 0);
-    accept_all(&mut register, &["clock 100"]);
+    accept_all(&mut register, &["clock 99"]);
     accepts(&register, "check 0 5", 1);
     let mut late = register.clone();
-    accept_all(&mut late, &["clock 101"]);
+    accept_all(&mut late, &["clock 100"]);
     accepts(&late, "check 0 5", 0);
     accept_all(&mut register, &["revoke 0 0"]);
     accepts(&register, "check 0 5", 0);

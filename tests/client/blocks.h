@@ -135,7 +135,7 @@ static struct block small_register(void)
         "create 3 role 1 9 0 0 0 4294967295 2 1 1 16777215 65535 65535\n",
         "revoke 3 1\n",
         "open 5 3 role 1 9 0 0\n",
-        "clock 101\n",
+        "clock 100\n",
     };
     struct block image = zeros(FELLUNQA_IMAGE_MIN);
     for (size_t i = 0; i < sizeof lines / sizeof *lines; i++)

@@ -58,7 +58,7 @@ static void check_refusals(struct tally *tally, struct block small, struct block
         {FELLUNQA_CONTEXT, 9, "open 6 3 role 2 9 0 0\n"},
         {FELLUNQA_EXHAUSTED, 10, "hand 3 4 0\n"},
         {FELLUNQA_EXCEEDS, 11, "allow 3 0 128\n"},
-        {FELLUNQA_PAST, 13, "clock 100\n"},
+        {FELLUNQA_PAST, 13, "clock 99\n"},
     };
     for (size_t i = 0; i < sizeof cases / sizeof *cases; i++)
         check(tally,

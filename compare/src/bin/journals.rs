@@ -4,13 +4,26 @@
 //! usage: journals PROGRAM JOURNALS. The last line is 'N passed, M failed',
 //! where each journal counts once.
 
-use compare::requests::{follow, line, PROFILES};
+use compare::borders::{self, Least};
+use compare::requests::{count_borders, follow, line, PROFILES};
 use compare::tally::Tally;
+use reference::generate::Borders;
 use reference::journal::{self, LONGEST_INPUT};
 use reference::random::Random;
 use reference::Register;
 use std::io::{self, Write};
 use std::process::{Command, ExitCode, Stdio};
+
+/// How often each 300 journals must meet the borders of lives. No journal opens
+/// a session on a life without a tick.
+const LEAST: Least = [
+    [100, 55, 12],   // the first tick
+    [200, 115, 60],  // before the last
+    [80, 50, 25],    // the last
+    [65, 45, 8],     // the last of all
+    [45, 35, 0],     // no tick
+    [280, 200, 120], // a role at the end
+];
 
 /// A journal of at most `size` bytes whose requests follow what they do to a
 /// register.
@@ -39,6 +52,18 @@ fn random_size(random: &mut Random) -> usize {
     }
 }
 
+/// Counts the borders of lives that the journal meets, if it is played at all.
+fn count_borders_of(borders: &mut Borders, input: &[u8]) {
+    if input.len() > LONGEST_INPUT {
+        return;
+    }
+    let mut register = Register::fresh();
+    for line in input.split_inclusive(|&byte| byte == b'\n') {
+        count_borders(borders, &register, line);
+        follow(&mut register, line);
+    }
+}
+
 /// What the program prints.
 fn printed(program: &str, input: &[u8]) -> io::Result<Vec<u8>> {
     let mut child = Command::new(program).stdin(Stdio::piped()).stdout(Stdio::piped()).spawn()?;
@@ -56,12 +81,14 @@ fn main() -> ExitCode {
     let program = arguments.get(1).expect("usage: journals PROGRAM JOURNALS");
     let journals = arguments.get(2).and_then(|count| count.parse().ok()).unwrap_or(200);
     let (mut told, mut accepted) = (0, 0);
+    let mut met = Borders::default();
     let mut tally = Tally::default();
     tally.play(journals, |seed| {
         let mut random = Random::new(seed);
         let size = random_size(&mut random);
         let input = random_journal(&mut random, size);
         let expected = journal::run(&input);
+        count_borders_of(&mut met, &input);
         told += expected.iter().filter(|&&byte| byte == b'\n').count();
         accepted += expected.windows(3).filter(|window| window == b"ok ").count();
         match printed(program, &input) {
@@ -72,5 +99,6 @@ fn main() -> ExitCode {
     });
     println!("{told} answers compared, {accepted} of them ok");
     tally.require(accepted > 0, "an accepted line");
+    borders::require(&mut tally, &met, &LEAST.map(|row| row.map(|least| journals / 300 * least)));
     tally.finish()
 }

@@ -24,4 +24,7 @@ call-cases =
       same-domain = computed refl;
       same-authority = computed refl;
       last-of-ranges = computed refl;
+      successors = computed refl;
+      last-of-ticks = computed refl;
+      empty-life = computed refl;
     }

@@ -1,13 +1,13 @@
 -- Of a register that keeps the rules and shows the origins `derived`: containment along derivation, and exact checks.
 use mathlib.Core.Path.{_≡_, sym, ap, _∙_, subst}
 use mathlib.Core.Logic.{_⊎_, inl, inr, _↔_}
-use mathlib.Core.Bool.{Bool, true, false, cond}
+use mathlib.Core.Bool.{Bool, cond}
 use mathlib.Core.List.{List}
 use Prim.Native.Nat.{ℕ, suc, _<_}
-use native.Mathlib.Nat.{le-refl, le-trans}
+use native.Mathlib.Nat.{le-refl}
 use native.Mathlib.Decide.{decLt}
 use native.Mathlib.Omega.{arith}
-use lib.Dec.{T, T-not, not-T, lt→ltb, ltb→lt, leb→le, le→leb}
+use lib.Dec.{T, T-not, not-T, lt→ltb, ltb→lt}
 use lib.ListN.{List·getD-eq-default}
 use Rattle.masks.specs.Tests.{Each}
 use Rattle.masks.proofs.Truth.{each→, each←, cond-yes, T→true}
@@ -16,7 +16,7 @@ use Rattle.model.specs.declared.Origin.{Origin}
 use Rattle.model.specs.declared.Origin.the-variants.{Role as ofRole, Capability as ofCapability}
 use Rattle.model.specs.declared.Session.{Session}
 use Rattle.model.specs.declared.Register.{Register}
-use Rattle.model.specs.State.{terms, roleAuthority, sessionAt, blankSession, originAt, lifeTests, inLife, exists}
+use Rattle.model.specs.State.{terms, roleAuthority, sessionAt, blankSession, originAt, exists}
 use Rattle.model.specs.Lineage.{Descends, here, Reaches, last-step, one-step}
 use Rattle.model.specs.Rules.{sessionKeeps, sessionTests, sessionBlank}
 use Rattle.model.specs.Invariant.{Below, RoleRules}
@@ -24,7 +24,7 @@ use Rattle.model.specs.Rulings.{value, refused, Guard, role, capability,
 use Rattle.model.specs.Sessions.{permits, permitTests, checkRuling}
 use Rattle.model.specs.Calls.{check, ruling}
 use Rattle.model.specs.Theorem.{asked, Yes, Contained, Sound, RoleSound, Entitled}
-use Rattle.model.proofs.Settling.{value-refused, verdict-cases, clear-verdict, step-answer}
+use Rattle.model.proofs.Settling.{value-refused, one-yes, verdict-cases, clear-verdict, step-answer}
 use Rattle.model.proofs.Authority.{authority-small}
 use Rattle.model.proofs.Kept.{Kept}
 use Rattle.model.proofs.Places.{role→}
@@ -32,18 +32,7 @@ use Rattle.model.proofs.Ranges.{founded-lt}
 use Rattle.model.proofs.Rules.{kept←}
 use Rattle.model.proofs.Tree.{contained, descends-shown, reaches, reaches-below}
 use Rattle.model.proofs.History.{Shows}
-
-pub one-yes : (b : Bool) → value (cond b 1 0) ≡ value 1 → T b
-one-yes true e = tt
-one-yes false e = let z : _≡_ {A = ℕ} 0 1 = cc in absurd (omega arith)
-
--- what is in life lies below what is in life
-pub life-above : (r : Register) (n m : ℕ) → Below (termsOf r (ofCapability n)) (termsOf r (ofCapability m))
-    → T (inLife (r .capabilities) (ofCapability n) (r .clock)) → T (inLife (r .capabilities) (ofCapability m) (r .clock))
-unfolding terms
-life-above r n m w h =
-    let at = each→ (lifeTests (capability r n) (r .clock)) h in
-    each← (lifeTests (capability r m) (r .clock)) (le→leb _ _ (le-trans (w .first) (leb→le _ _ (at .0))), (le→leb _ _ (le-trans (leb→le _ _ (at .1 .0)) (w .last)), tt))
+use Rattle.model.proofs.Lives.{life-above}
 
 -- the role that a lineage reaches is one
 pub reaches-one : {derived : ℕ → Origin} {f n j k : ℕ} → Reaches derived f n j → Reaches derived f n k → j ≡ k
@@ -114,7 +103,7 @@ module _ (r : Register) (derived : ℕ → Origin) (k : Kept r) (shows : Shows r
             record {
               grants = within-has _ _ (w .grants) p (e .1 .1 .1 .0);
               unrevoked = not-T ((capability r m) .revoked) (λ t. T-not ((capability r n) .revoked) (e .1 .0) (w .revoked t));
-              alive = life-above r n m w (e .1 .1 .0);
+              alive = life-above (r .capabilities) n m (r .clock) (w .first) (w .last) (e .1 .1 .0);
             };
         ends =
             let end : (j : ℕ) × Reaches derived (suc n) n j × T ((role r j) .founded) = bounded-holds n l in

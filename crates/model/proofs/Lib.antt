@@ -21,6 +21,7 @@ pub mod RuleFacts
 pub mod Rules
 pub mod Running
 pub mod EachAnswer
+pub mod Lives
 pub mod History
 pub mod Checks
 pub mod Revokes

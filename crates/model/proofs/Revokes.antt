@@ -23,7 +23,7 @@ use Rattle.model.specs.Sessions.{permitting, permits, checkRuling}
 use Rattle.model.specs.Revocation.{marked, revokeRuling}
 use Rattle.model.specs.Calls.{check, revoke, ruling, step}
 use Rattle.model.specs.Theorem.{asked, next, Yes, Due, CountOf, none, counted, skipped, OnDue, ChangesCheck, Revokes}
-use Rattle.model.proofs.Settling.{passed, Settled, accepted, declined, value-refused, verdict-cases, step-answer}
+use Rattle.model.proofs.Settling.{passed, Settled, accepted, declined, same-value, value-refused, one-yes, verdict-cases, step-answer}
 use Rattle.model.proofs.Kept.{Kept}
 use Rattle.model.proofs.Rules.{kept←}
 use Rattle.model.proofs.Tree.{inLineage→, inLineage←, descends-derived}
@@ -31,7 +31,7 @@ use Rattle.model.proofs.Keeping.{with-capabilities}
 use Rattle.model.proofs.Revoking.{revoke-at, revoke-frames, revoke-capabilities}
 use Rattle.model.proofs.Running.{step-cases}
 use Rattle.model.proofs.History.{Shows}
-use Rattle.model.proofs.Checks.{one-yes, shown, session-on, permits-entitled}
+use Rattle.model.proofs.Checks.{shown, session-on, permits-entitled}
 
 -- ---- a number of things, and a count by a test that says the same of each
 
@@ -238,6 +238,3 @@ module _ (r : Register) (derived : ℕ → Origin) (k : Kept r) (shows : Shows r
             marks-only = marks-only-hold n l;
             capabilities-only = refl;
           })
-        where
-          same-value : {w : ℕ} → value w ≡ value v → w ≡ v
-          same-value f = cc

@@ -1,7 +1,7 @@
 -- What a ruling comes to: refused, nothing is changed; accepted, no refusal applied. Once for all calls.
 use mathlib.Core.Path.{_≡_, refl, sym, ap, ap₂, _∙_}
 use mathlib.Core.Logic.{_⊎_, inl, inr}
-use mathlib.Core.Bool.{Bool, true, false, not}
+use mathlib.Core.Bool.{Bool, true, false, cond, not}
 use mathlib.Core.List.{List, [], _∷_}
 use Prim.Native.Nat.{ℕ}
 use lib.Dec.{T, T-not, not-T, eqb}
@@ -63,6 +63,22 @@ settle-answer {A} r (q ∷ rest) v s = cases (applies q) (settle-answer r rest v
 -- two answers told apart
 pub value-refused : {A : Type 0} {v n : ℕ} → value v ≡ refused n → A
 value-refused e = let z : _≡_ {A = ℕ} 0 1 = cc in absurd (omega arith)
+
+pub same-value : {v w : ℕ} → value v ≡ value w → v ≡ w
+same-value e = cc
+
+-- value 1 is a yes
+pub one-yes : (b : Bool) → value (cond b 1 0) ≡ value 1 → T b
+one-yes true e = tt
+one-yes false e = let z : _≡_ {A = ℕ} 0 1 = same-value e in absurd (omega arith)
+
+-- accepted, no refusal applied, and the value is the call's
+pub settle-value : {A : Type 0} (r : A) (rs : List Guard) (v : ℕ) (s : A) {w : ℕ} → (settle r rs v s) .answer ≡ value w → Clear rs × (v ≡ w)
+settle-value {A} r rs v s {w} e = cases (settle-cases r rs v s)
+  where
+    cases : Settled r rs v s (settle r rs v s) → Clear rs × (v ≡ w)
+    cases (accepted h q) = (h, same-value (sym (ap (λ (x : Effect A). x .answer) q) ∙ e))
+    cases (declined n q) = value-refused (sym e ∙ ap (λ (x : Effect A). x .answer) q)
 
 -- refused, the state is as it was
 pub settle-stays : {A : Type 0} (r : A) (rs : List Guard) (v : ℕ) (s : A) {n : ℕ} → (settle r rs v s) .answer ≡ refused n → (settle r rs v s) .after ≡ r
@@ -171,3 +187,10 @@ pub broken : (r : Register) (c : Call) → wellFormed r ≡ false → record { a
 unfolding step settle
 broken r c e =
     sym (ap (λ (b : Bool). settle r ((15 unless (b ∷ [])) ∷ (ruling r c) .guards) ((ruling r c) .result) ((ruling r c) .after)) e)
+
+-- an accepted call, of any register
+pub step-value : (r : Register) (c : Call) {w : ℕ} → (step r c) .answer ≡ value w → Clear ((ruling r c) .guards) × ((ruling r c) .result ≡ w)
+unfolding step
+step-value r c e =
+    let h = settle-value r (15 unless (wellFormed r ∷ []) ∷ (ruling r c) .guards) ((ruling r c) .result) ((ruling r c) .after) e in
+    (h .0 .1, h .1)

@@ -23,6 +23,10 @@ create-by user o = create user o (contextOf 9 0 0) (plan 9 9 9)
 abbrev open-by : (session user : ℕ) → Origin → Call
 open-by session user o = opening session user o (contextOf 9 0 0)
 
+-- user 3 creates from role 1 a capability with this life
+abbrev living : (first last : ℕ) → Call
+living first last = create 3 (ofRole 1) (contextOf 9 0 0) (planOf first last 9 9 9 16777215 65535 65535)
+
 -- role 1 of `staffed` in domain 0, and its like in domain 1 with user 4: role 2
 abbrev pub two-domains : List Exchange
 two-domains =
@@ -185,14 +189,14 @@ pub record CallCases : Type 0 where
       ∷ lend 3 1 4 gets value 1
       ∷ same 0 1 gets value 1
       ∷ []))
-  -- the last number of each range is accepted, a life of one tick too; amend goes up to the origin's limit and no further
+  -- the last number of each range is accepted; amend goes up to the origin's limit and no further
   pub last-of-ranges : Answered (enrol 63 7 gets value 0
       ∷ found 31 7 16777215 65535 65535 gets value 0
       ∷ grant 31 0 gets value 0
       ∷ grant 31 31 gets value 0
       ∷ appoint 63 31 gets value 0
-      ∷ clock 4294967295 gets value 0
-      ∷ create 63 (ofRole 31) (contextOf 23 15 15) (planOf 4294967295 4294967295 65535 65535 65535 16777215 65535 65535) gets value 0
+      ∷ clock 4294967294 gets value 0
+      ∷ create 63 (ofRole 31) (contextOf 23 15 15) (planOf 4294967294 4294967295 65535 65535 65535 16777215 65535 65535) gets value 0
       ∷ allow 63 0 2147483648 gets value 2147483648
       ∷ lend 63 0 2147483648 gets value 2147483649
       ∷ hand 63 63 0 gets value 1
@@ -201,4 +205,55 @@ pub record CallCases : Type 0 where
       ∷ amend 63 0 (lower 65535) gets value 0
       ∷ amend 63 0 (raise 65535) gets value 65535
       ∷ amend 63 0 (raise 1) gets refused 11
+      ∷ create 63 (ofRole 31) (contextOf 23 15 15) (planOf 4294967295 4294967295 0 0 0 0 0 0) gets value 1
+      ∷ clock 4294967295 gets value 0
       ∷ [])
+  -- capability 0 ends at tick 100, where its successor 1 starts: each tick opens one of them, and the check of the other is 0
+  pub successors : Answered (staffed
+      ++ (living 0 100 gets value 0
+      ∷ living 100 200 gets value 1
+      ∷ allow 3 0 16 gets value 16
+      ∷ allow 3 1 16 gets value 16
+      ∷ hand 3 3 0 gets value 1
+      ∷ hand 3 3 1 gets value 1
+      ∷ clock 99 gets value 0
+      ∷ open-by 5 3 (ofCapability 0) gets value 0
+      ∷ open-by 6 3 (ofCapability 1) gets refused 8
+      ∷ check 5 4 gets value 1
+      ∷ clock 100 gets value 0
+      ∷ open-by 6 3 (ofCapability 0) gets refused 8
+      ∷ open-by 6 3 (ofCapability 1) gets value 0
+      ∷ check 5 4 gets value 0
+      ∷ check 6 4 gets value 1
+      ∷ []))
+  -- at the last of all ticks a capability that ends there opens, creates and permits nothing; its role does all three
+  pub last-of-ticks : Answered (staffed
+      ++ (living 0 4294967295 gets value 0
+      ∷ allow 3 0 17 gets value 17
+      ∷ hand 3 3 0 gets value 1
+      ∷ clock 4294967294 gets value 0
+      ∷ open-by 5 3 (ofCapability 0) gets value 0
+      ∷ open-by 6 3 (ofRole 1) gets value 0
+      ∷ check 5 4 gets value 1
+      ∷ create-by 3 (ofCapability 0) gets value 1
+      ∷ clock 4294967295 gets value 0
+      ∷ check 5 4 gets value 0
+      ∷ open-by 7 3 (ofCapability 0) gets refused 8
+      ∷ create-by 3 (ofCapability 0) gets refused 8
+      ∷ check 6 4 gets value 1
+      ∷ open-by 7 3 (ofRole 1) gets value 0
+      ∷ create-by 3 (ofRole 1) gets value 2
+      ∷ []))
+  -- a life from 7 to 7 is accepted and has no tick: the capability opens nothing and creates nothing
+  pub empty-life : Answered (staffed
+      ++ (living 7 7 gets value 0
+      ∷ allow 3 0 17 gets value 17
+      ∷ hand 3 3 0 gets value 1
+      ∷ clock 6 gets value 0
+      ∷ open-by 5 3 (ofCapability 0) gets refused 8
+      ∷ clock 7 gets value 0
+      ∷ open-by 5 3 (ofCapability 0) gets refused 8
+      ∷ create 3 (ofCapability 0) (contextOf 9 0 0) (planOf 7 7 9 9 9 16777215 65535 65535) gets refused 8
+      ∷ clock 8 gets value 0
+      ∷ open-by 5 3 (ofCapability 0) gets refused 8
+      ∷ []))

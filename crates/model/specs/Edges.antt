@@ -95,11 +95,11 @@ pub record Edges : Type 0 where
   pub e2 : Answered (issued ++ (amend 3 0 (lower 3) gets refused 10 ∷ []))
   -- "E3 pass 255 is created, the next gives 12.": 256 creates are answered 0 to 255
   pub e3 : Answered (staffed ++ (numbered 256 0 ++ (create-3 (ofRole 1) 2 1 1 gets refused 12 ∷ [])))
-  -- "E4 life 0 to 100 opens at 100, at 101 gives 8."
+  -- E4 (§12.1.1), life 0 to 100: 99 opens, 100 gives 8
   pub e4 : Answered (issued
-      ++ (clock 100 gets value 0
+      ++ (clock 99 gets value 0
       ∷ open-0 5 9 gets value 0
-      ∷ clock 101 gets value 0
+      ∷ clock 100 gets value 0
       ∷ open-0 6 9 gets refused 8
       ∷ []))
   -- "E5 hour 23 passes, 24 gives 2."

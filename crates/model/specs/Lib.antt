@@ -21,6 +21,7 @@ pub mod Requests
 pub mod Lists
 pub mod Theorem
 pub mod Runs
+pub mod Lives
 pub mod Edges
 pub mod Listing
 pub mod Cases

@@ -126,11 +126,11 @@ abbrev pub hasMember : Party → ℕ → Bool
 hasMember (theRole k x) user = has (x .appointed) user
 hasMember (theCapability n c) user = has (c .holders) user
 
--- "A life includes both its ends."
+-- §3.3.2: from the first tick on, and before the last
 abbrev pub lifeTests : Capability → ℕ → List Bool
-lifeTests c tick = leb (c .first) tick ∷ leb tick (c .last) ∷ []
+lifeTests c tick = leb (c .first) tick ∷ ltb tick (c .last) ∷ []
 
--- a role's life is the whole time
+-- §3.3.3: a role is in life at every tick, the last of all too
 abbrev pub lives : Party → ℕ → Bool
 lives (theRole k x) tick = true
 lives (theCapability n c) tick = each (lifeTests c tick)
@@ -199,7 +199,7 @@ unfoldable pub mayLend : List Role → ℕ → ℕ
 mayLend roles m = joined (roleLends roles) m 32
 
 -- "An origin may give the permissions of its authority, and the roles lent to it or, where it is a role, just itself."
--- A role's life "is 0 to 4,294,967,295", its limits "are 65,535"; "a role never is" revoked
+-- A role's first and last tick, which containment compares (§3.3.3), its limits, and that it is never revoked (§3.3.5)
 abbrev pub partyTerms : (granted : ℕ → ℕ) (authority : Capability → ℕ) (mayLend : ℕ → ℕ) → Party → Terms
 partyTerms granted authority mayLend (theRole k x) =
     record {

@@ -29,13 +29,13 @@ pub fn member_in(o: Origin, x: Role, c: Capability, user: u32) -> bool
     }
 }
 
-// The tick is in the life; a role's is the whole time.
+// The tick is in the life: of a capability from its first tick on and before its last (§3.3.2), of a role always (§3.3.3).
 pub fn alive_in(o: Origin, c: Capability, tick: u32) -> bool
     ensures { λ q. ⌜ ((x : RoleHeld) → q ≡ lives (partyIn o x c) tick) ⌝ }
 {
     match o {
         Origin::Role(k) => true,
-        Origin::Capability(n) => (c.first <= tick) & (tick <= c.last),
+        Origin::Capability(n) => (c.first <= tick) & (tick < c.last),
     }
 }
 

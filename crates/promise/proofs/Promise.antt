@@ -1,6 +1,7 @@
 -- The whole promise, each part by the proof that its crate has of it.
 use Rattle.model.proofs.ListTheorem.{list-theorem}
 use Rattle.model.proofs.EachAnswer.{each-answer}
+use Rattle.model.proofs.Lives.{life-laws}
 use Rattle.model.proofs.Runs.{journal-runs, batches-run, entry-returns}
 use Rattle.model.proofs.Edges.{fresh-formed, edges}
 use Rattle.model.proofs.Listing.{listing-played}
@@ -19,6 +20,7 @@ promise =
       list-theorem = list-theorem;
       fresh-start = fresh-formed;
       each-answer = each-answer;
+      life-laws = life-laws;
       journal-runs = journal-runs;
       batches-run = batches-run;
       entry-returns = entry-returns;

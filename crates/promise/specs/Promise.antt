@@ -8,6 +8,7 @@ use base.Logic.{SProp}
 use contract.Monad.{Fun}
 use Rattle.model.specs.Theorem.{ListTheorem, FreshStart, EachAnswer}
 use Rattle.model.specs.Runs.{JournalRuns, BatchesRun, EntryReturns, EntryRuns}
+use Rattle.model.specs.Lives.{LifeLaws}
 use Rattle.model.specs.Edges.{Edges}
 use Rattle.model.specs.Listing.{Listing}
 use Rattle.model.specs.Cases.{CallCases}
@@ -24,6 +25,8 @@ pub record Promise : Type 2 where
   pub fresh-start : FreshStart
   -- every answer has its bounds, and what is refused leaves the register as it was (`model`, Theorem.antt)
   pub each-answer : EachAnswer
+  -- lives over every tick, and the calls that read the clock against them (`model`, Lives.antt)
+  pub life-laws : LifeLaws
   -- what runs are such lists (`model`, Runs.antt): a journal, batches one after the other, and calls from C on the image kept
   pub journal-runs : JournalRuns
   pub batches-run : BatchesRun

@@ -37,20 +37,11 @@ pub fn check(register: &Register, session: u64, permission: u64) -> Answer {
     let session = arguments::session(session)?;
     let permission = arguments::permission(permission)?;
     need_session(register, session)?;
-    let session = &register.sessions[usize::from(session)];
-    let yes = match session.on {
-        Origin::Role(number) => {
-            let role = register.role(number);
-            has(role.appointed, session.user) && has(role.permissions, permission)
-        }
-        Origin::Capability(number) => {
-            let capability = register.capability(number);
-            has(capability.holders, session.user)
-                && !capability.revoked
-                && register.in_life(session.on)
-                && has(register.authority(session.on), permission)
-        }
-    };
+    let Session { user, on, .. } = register.sessions[usize::from(session)];
+    let yes = has(register.members(on), user)
+        && !register.bounds(on).revoked
+        && register.in_life(on)
+        && has(register.authority(on), permission);
     Ok(u64::from(yes))
 }
 

@@ -110,7 +110,7 @@ impl Draw<'_> {
     }
 
     /// Whether the next limit, life or mask is to be narrower.
-    fn narrower(&mut self) -> bool {
+    pub fn narrower(&mut self) -> bool {
         self.random.chance(self.profile.narrow, 16)
     }
 
@@ -164,22 +164,6 @@ impl Draw<'_> {
     fn deepest(&self, numbers: &[u8]) -> u8 {
         let depth = |number: &&u8| self.register.lineage(**number).capabilities.len();
         numbers.iter().max_by_key(depth).copied().unwrap_or(0)
-    }
-
-    /// A life that fits, often one that ends soon.
-    pub fn life(&mut self, bounds: &Bounds) -> (u64, u64) {
-        let (first, last) = (u64::from(bounds.first), u64::from(bounds.last));
-        let now = u64::from(self.register.clock);
-        let start = match self.narrower() {
-            true if self.random.chance(1, 2) => self.random.between(first, now.min(last)),
-            true => self.random.between(first, last.min(now + 10)),
-            false => first,
-        };
-        let end = match self.narrower() {
-            true => (now + self.random.below(80)).min(last).max(start),
-            false => last,
-        };
-        (start, end)
     }
 
     /// The bounds of the capability from above, if it is there.

@@ -2,6 +2,7 @@
 //! and not by calls, so that they also show what only an image can show, such
 //! as sessions of users who hold nothing.
 
+use super::lives::borders;
 use crate::random::Random;
 use crate::register::{
     Bounds, Capability, Context, Origin, Register, Role, Session, CAPABILITIES, DOMAINS,
@@ -10,7 +11,6 @@ use crate::register::{
 /// A random register that keeps the rules.
 pub fn register(random: &mut Random) -> Register {
     let mut register = Register::fresh();
-    register.clock = tick(random);
     register.enrolled = match random.below(4) {
         0 => u64::MAX,
         1 => random.bits() & random.bits() & random.bits(),
@@ -20,7 +20,25 @@ pub fn register(random: &mut Random) -> Register {
     add_roles(random, &mut register);
     add_capabilities(random, &mut register);
     add_sessions(random, &mut register);
+    register.clock = clock(random, &register);
     register
+}
+
+/// Any tick, or a border of a life: of any capability, or of one on which a
+/// session is open.
+fn clock(random: &mut Random, register: &Register) -> u32 {
+    let used =
+        |on: &u8| register.sessions.iter().any(|session| session.on == Origin::Capability(*on));
+    let numbers: Vec<u8> = match random.below(4) {
+        0 => register.numbers().collect(),
+        1 | 2 => register.numbers().filter(used).collect(),
+        _ => Vec::new(),
+    };
+    if numbers.is_empty() {
+        return tick(random);
+    }
+    let number = random.pick(&numbers);
+    random.pick(&borders(register.capability(number)))
 }
 
 /// A tick of any size, small ones as often as large ones.
@@ -156,15 +174,16 @@ fn holders(random: &mut Random, enrolled: u64, limit: u16) -> u64 {
     holders
 }
 
-/// A life within the bounds.
+/// A life within the bounds, seldom one without a tick.
 fn life(random: &mut Random, bounds: &Bounds) -> (u32, u32) {
     let (first, last) = (u64::from(bounds.first), u64::from(bounds.last));
     let start = match random.below(3) {
         0 => (first + u64::from(tick(random))).min(last),
         _ => first,
     };
-    let end = match random.below(3) {
-        0 => random.between(start, last),
+    let end = match random.below(8) {
+        0 => start,
+        1..=3 => random.between(start, last),
         _ => last,
     };
     (start as u32, end as u32)
@@ -180,15 +199,18 @@ fn add_sessions(random: &mut Random, register: &mut Register) {
     }
 }
 
-/// A session of any user on any role or capability, if that admits a context.
+/// A session of any user, often a member, on any role or capability, if that
+/// admits a context.
 fn session(random: &mut Random, register: &Register) -> Option<Session> {
-    let user = random.bit(register.enrolled)? as u8;
+    let anybody = random.bit(register.enrolled)?;
     let roles = roles(register);
     let on = match register.count > 0 && random.chance(3, 4) {
         true => Origin::Capability(random.below(register.count.into()) as u8),
         false if roles.is_empty() => return None,
         false => Origin::Role(random.pick(&roles)),
     };
+    let member = random.bit(register.members(on)).filter(|_| random.chance(1, 2));
+    let user = member.unwrap_or(anybody) as u8;
     let Context { hour, place, device } = admitted(random, &register.bounds(on))?;
     Some(Session { active: true, user, on, hour, place, device })
 }

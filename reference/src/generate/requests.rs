@@ -107,7 +107,7 @@ impl Draw<'_> {
             9 => self.lend(),
             10 => self.hand(),
             11 => self.open(),
-            12 => Request::Check { session: self.session(true), permission: self.permission() },
+            12 => self.check(),
             13 => self.amend(),
             14 => self.revoke(),
             15 => Request::Close { session: self.session(true) },
@@ -139,24 +139,29 @@ impl Draw<'_> {
         Request::Dismiss { user: self.member(Origin::Role(role as u8)), role }
     }
 
-    /// Mostly a few ticks on, seldom back or far.
+    /// Mostly a few ticks on or to the border of a life, seldom back or far.
     fn clock(&mut self) -> Request {
         let now = u64::from(self.register.clock);
         let tick = match self.random.below(16) {
             0 => now.saturating_sub(self.random.between(1, 3)),
             1 => now,
             2 => now + self.random.below(100),
+            3..=10 => self.border(),
             _ => now + self.random.between(1, 4),
         };
         Request::Clock { tick: tick.min(u64::from(u32::MAX)) }
     }
 
     fn create(&mut self) -> Request {
-        let origin = self.origin(|register, number| {
+        let fertile = |register: &Register, number| {
             let capability = register.capability(number);
             has(register.authority(Origin::Capability(number)), CREATE)
                 && capability.creations < capability.creation_limit
-        });
+        };
+        let origin = match self.bordering(fertile) {
+            Some(number) => Origin::Capability(number),
+            None => self.origin(fertile),
+        };
         let bounds = self.register.bounds(origin);
         let (first, last) = self.life(&bounds);
         let mut creation = Creation {
@@ -180,16 +185,19 @@ impl Draw<'_> {
         Request::Create(creation)
     }
 
-    /// Makes one thing larger than it may be, where there is a larger one.
+    /// Makes one thing larger than it may be, where there is a larger one, or
+    /// asks for a life without a tick after the end.
     fn enlarge(&mut self, creation: &mut Creation) {
-        match self.random.below(8) {
+        let later = (creation.last + 1).min(u64::from(u32::MAX));
+        match self.random.below(9) {
             0 => creation.first = creation.first.saturating_sub(1),
-            1 => creation.last = (creation.last + 1).min(u64::from(u32::MAX)),
-            2 => creation.use_limit = 65_535,
-            3 => creation.creation_limit = 65_535,
-            4 => creation.hop_limit = 65_535,
-            5 => creation.hours = 0xff_ffff,
-            6 => creation.places = 0xffff,
+            1 => creation.last = later,
+            2 => (creation.first, creation.last) = (later, later),
+            3 => creation.use_limit = 65_535,
+            4 => creation.creation_limit = 65_535,
+            5 => creation.hop_limit = 65_535,
+            6 => creation.hours = 0xff_ffff,
+            7 => creation.places = 0xffff,
             _ => creation.devices = 0xffff,
         }
     }
@@ -222,7 +230,14 @@ impl Draw<'_> {
     }
 
     fn open(&mut self) -> Request {
-        let on = self.origin(|_, _| true);
+        let with_uses_left = |register: &Register, number| {
+            let capability = register.capability(number);
+            capability.uses < capability.use_limit
+        };
+        let on = match self.bordering(with_uses_left) {
+            Some(number) => Origin::Capability(number),
+            None => self.origin(|_, _| true),
+        };
         let bounds = self.register.bounds(on);
         Request::Open(Opening {
             session: self.session(false),

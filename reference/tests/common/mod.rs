@@ -1,6 +1,7 @@
 //! Shared by the integration tests.
 #![allow(dead_code)]
 
+use reference::generate::{Border, Borders};
 use reference::{apply, parse, well_formed, Answer, Register};
 
 /// The input of the listing (§12.3.1).
@@ -79,6 +80,13 @@ pub fn refuses(register: &Register, line: &str, number: u8) {
 /// The line must be accepted with this value.
 pub fn accepts(register: &Register, line: &str, value: u64) {
     expect(register, line, Ok(value));
+}
+
+/// Create, open and check must have met the border so often.
+pub fn assert_met(borders: &Borders, border: Border, least: [u64; 3]) {
+    let met = borders.met(border);
+    let enough = met.iter().zip(least).all(|(&met, least)| met >= least);
+    assert!(enough, "{border:?}: {met:?} of at least {least:?}");
 }
 
 /// Users 0, 1, 2 of domain 0 and 3 of domain 1. Role 0 (domain 0, all

@@ -2,6 +2,7 @@
 //! step. The derivation is the test's own (§7.1.3): taken from the start and
 //! from the accepted creates, and never read off the register after that.
 
+use reference::generate::Borders;
 use reference::register::has;
 use reference::{apply, apply_trusted, well_formed, Answer, Capability};
 use reference::{Creation, Named, Origin, Register, Request};
@@ -26,6 +27,8 @@ pub struct Tally {
     pub deep_yes: u64,
     /// The longest lineage.
     pub depth: usize,
+    /// Requests at the borders of lives.
+    pub borders: Borders,
 }
 
 /// The register and the derivation of its capabilities.
@@ -61,6 +64,7 @@ impl Monitor {
     /// Performs the call and asserts all claims.
     pub fn step(&mut self, request: &Request) -> Answer {
         let before = self.register.clone();
+        self.tally.borders.add(&before, request);
         let answer = apply(&mut self.register, request);
         match answer {
             Err(refusal) => {
@@ -201,9 +205,10 @@ impl Monitor {
         let mut carried = self.register.roles[role].permissions;
         for at in uppers.into_iter().chain([number]) {
             let capability = &self.register.capabilities[at];
-            let life = capability.first..=capability.last;
+            let to_come = self.register.clock < capability.first;
+            let over = capability.last <= self.register.clock;
             carried &= self.authority(at);
-            if capability.revoked || !life.contains(&self.register.clock) {
+            if capability.revoked || to_come || over {
                 return 0;
             }
         }

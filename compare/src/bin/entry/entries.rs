@@ -5,10 +5,11 @@
 use crate::library::{Areas, LARGEST, ROOMY};
 use crate::malformed::malformed;
 use compare::answers::Answers;
+use compare::borders::{self, Least};
 use compare::registers::varied;
-use compare::requests::{follow, line, PROFILES};
+use compare::requests::{count_borders, follow, line, PROFILES};
 use compare::tally::Tally;
-use reference::generate::{damage_image, Profile};
+use reference::generate::{damage_image, Borders, Profile};
 use reference::image::LONGEST;
 use reference::random::Random;
 use reference::{encode, Register};
@@ -20,21 +21,40 @@ const REGISTERS: usize = 20;
 /// Lines for a register.
 const LINES: usize = 50;
 
+/// How often the lines must meet the borders of lives.
+const LEAST: Least = [
+    [30, 14, 3],  // the first tick
+    [60, 33, 19], // before the last
+    [19, 10, 6],  // the last
+    [22, 17, 7],  // the last of all
+    [15, 11, 2],  // no tick
+    [18, 15, 11], // a role at the end
+];
+
+/// What occurred in the batches.
+#[derive(Default)]
+struct Seen {
+    answers: Answers,
+    borders: Borders,
+}
+
 pub fn run() -> ExitCode {
     let mut areas = Areas::new();
-    let mut answers = Answers::default();
+    let mut seen = Seen::default();
     let mut tally = Tally::default();
-    tally.play(BATCHES, |seed| play(seed, &mut areas, &mut answers));
+    tally.play(BATCHES, |seed| play(seed, &mut areas, &mut seen));
+    let Seen { answers, borders } = seen;
     println!("{} lines: {answers}", answers.total());
     tally.require(answers.accepted() > 0, "an accepted line");
     tally.require((2..=13).any(|number| answers.refused(number) > 0), "a call's own refusal");
     for number in [14, 1, 16] {
         tally.require(answers.refused(number) > 0, &format!("the refusal {number}"));
     }
+    borders::require(&mut tally, &borders, &LEAST);
     tally.finish()
 }
 
-fn play(seed: u64, areas: &mut Areas, answers: &mut Answers) -> Result<(), String> {
+fn play(seed: u64, areas: &mut Areas, seen: &mut Seen) -> Result<(), String> {
     let mut random = Random::new(seed);
     for _ in 0..REGISTERS {
         let profile = random.pick(&PROFILES)();
@@ -47,7 +67,12 @@ fn play(seed: u64, areas: &mut Areas, answers: &mut Answers) -> Result<(), Strin
             if random.chance(1, 12) {
                 damage_image(&mut random, &mut image);
             }
-            answers.add(areas.ask(&image, &line, length)?);
+            let answer = areas.ask(&image, &line, length)?;
+            seen.answers.add(answer);
+            // 16 would hide what the call itself answers
+            if image == saved && answer != -16 {
+                count_borders(&mut seen.borders, &register, &line);
+            }
         }
     }
     Ok(())

@@ -8,10 +8,10 @@ use compare::answers::Answers;
 use compare::registers::varied;
 use compare::requests::PROFILES;
 use compare::tally::Tally;
-use reference::encode;
 use reference::generate::{damage_image, damage_register};
 use reference::random::Random;
 use reference::register::CAPABILITIES;
+use reference::{encode, Register};
 use std::process::ExitCode;
 
 const BATCHES: u64 = 200;
@@ -30,6 +30,8 @@ struct Seen {
     changed: Answers,
     /// Registers with all passes.
     full: u64,
+    /// Registers with a life that has no tick.
+    lifeless: u64,
 }
 
 pub fn run() -> ExitCode {
@@ -37,11 +39,16 @@ pub fn run() -> ExitCode {
     let mut seen = Seen::default();
     let mut tally = Tally::default();
     tally.play(BATCHES, |seed| play(seed, &mut areas, &mut seen));
-    let Seen { saved, damaged, changed, full } = seen;
-    println!("{} saved images, {full} of them with 256 passes: {saved}", saved.total());
+    let Seen { saved, damaged, changed, full, lifeless } = seen;
+    println!(
+        "{} saved images, {full} of them with 256 passes, {lifeless} with a life without a tick: \
+         {saved}",
+        saved.total()
+    );
     println!("{} damaged images: {damaged}", damaged.total());
     println!("{} images of damaged registers: {changed}", changed.total());
     tally.require(full > 0, "an image with 256 passes");
+    tally.require(lifeless > 0, "an image with a life without a tick");
     tally.require(saved.accepted() > 0, "a saved image accepted");
     for answers in [damaged, changed] {
         tally.require(answers.accepted() > 0, "a damaged image accepted");
@@ -56,6 +63,7 @@ fn play(seed: u64, areas: &mut Areas, seen: &mut Seen) -> Result<(), String> {
         let profile = random.pick(&PROFILES)();
         let register = varied(&mut random, &profile);
         seen.full += u64::from(usize::from(register.count) == CAPABILITIES);
+        seen.lifeless += u64::from(has_life_without_a_tick(&register));
         let image = encode(&register);
         seen.saved.add(verdict(areas, &image)?);
         for _ in 0..DAMAGED {
@@ -70,6 +78,12 @@ fn play(seed: u64, areas: &mut Areas, seen: &mut Seen) -> Result<(), String> {
         }
     }
     Ok(())
+}
+
+/// Whether a pass ends as it begins.
+fn has_life_without_a_tick(register: &Register) -> bool {
+    let passes = &register.capabilities[..usize::from(register.count)];
+    passes.iter().any(|pass| pass.first == pass.last)
 }
 
 /// The answer to the line that sets the clock to the tick which the image

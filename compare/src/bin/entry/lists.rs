@@ -3,8 +3,10 @@
 
 use crate::library::{Areas, ROOMY};
 use compare::answers::Answers;
-use compare::requests::{follow, line, PROFILES};
+use compare::borders::{self, Least};
+use compare::requests::{count_borders, follow, line, PROFILES};
 use compare::tally::Tally;
+use reference::generate::Borders;
 use reference::random::Random;
 use reference::register::CAPABILITIES;
 use reference::{encode, generate, Register};
@@ -14,10 +16,22 @@ use std::process::ExitCode;
 const LISTS: u64 = 80;
 const LENGTHS: [usize; 4] = [200, 800, 2_000, 4_000];
 
+/// How often the lists must meet the borders of lives. Seldom a session is open
+/// on a life without a tick.
+const LEAST: Least = [
+    [50, 40, 8],     // the first tick
+    [200, 110, 70],  // before the last
+    [90, 65, 25],    // the last
+    [140, 190, 30],  // the last of all
+    [40, 40, 0],     // no tick
+    [300, 330, 280], // a role at the end
+];
+
 /// What occurred in the lists.
 #[derive(Default)]
 struct Seen {
     answers: Answers,
+    borders: Borders,
     /// Calls that added the last pass that there can be.
     capabilities_filled: u64,
     /// Calls that opened the last session that was not open.
@@ -29,7 +43,7 @@ pub fn run() -> ExitCode {
     let mut seen = Seen::default();
     let mut tally = Tally::default();
     tally.play(LISTS, |seed| play(seed, &mut areas, &mut seen));
-    let Seen { answers, capabilities_filled, sessions_filled } = seen;
+    let Seen { answers, borders, capabilities_filled, sessions_filled } = seen;
     println!("{} calls: {answers}", answers.total());
     println!(
         "filled: with 256 passes {capabilities_filled} times, with 64 sessions {sessions_filled}"
@@ -40,6 +54,7 @@ pub fn run() -> ExitCode {
     }
     tally.require(capabilities_filled > 0, "a register filled with passes");
     tally.require(sessions_filled > 0, "a register filled with sessions");
+    borders::require(&mut tally, &borders, &LEAST);
     tally.finish()
 }
 
@@ -53,6 +68,7 @@ fn play(seed: u64, areas: &mut Areas, seen: &mut Seen) -> Result<(), String> {
         let line = line(&mut random, &register, &profile);
         let answer = areas.ask(&image, &line, ROOMY)?;
         seen.answers.add(answer);
+        count_borders(&mut seen.borders, &register, &line);
         if answer >= 0 {
             image = areas.image().to_vec();
             let before = full(&register);
