@@ -271,7 +271,7 @@ reader() {
     printf '}\n'
   } > "$work/reader.c"
   "$cc" "${flags[@]}" -Iexamples/inspect -o "$work/reader" "$work/reader.c" examples/inspect/image.c "$LIB" "${libs[@]}" &&
-    [ "$("$work/reader" < "$work/deputy.image")" = 'the clock stands at 1501' ]
+    [ "$("$work/reader" < "$work/deputy.image")" = 'the clock stands at 1500' ]
 }
 
 from_make() {
