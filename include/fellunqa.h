@@ -34,10 +34,10 @@
  * image does not say its version: keep this text beside it, and see CHANGELOG.md before a library of another second
  * number reads it.
  */
-#define FELLUNQA_VERSION "0.1.1"
+#define FELLUNQA_VERSION "0.2.0"
 #define FELLUNQA_VERSION_MAJOR 0
-#define FELLUNQA_VERSION_MINOR 1
-#define FELLUNQA_VERSION_PATCH 1
+#define FELLUNQA_VERSION_MINOR 2
+#define FELLUNQA_VERSION_PATCH 0
 
 #ifdef __cplusplus
 extern "C" {
@@ -76,7 +76,7 @@ enum fellunqa_refusal {
     FELLUNQA_FORBIDDEN = 6,
     /* the capability is revoked */
     FELLUNQA_REVOKED = 7,
-    /* create, open: the clock is outside the life of the capability */
+    /* create, open: the clock is outside the life of the capability, which ends before its last tick */
     FELLUNQA_EXPIRED = 8,
     /* create, open: the role or capability does not admit the context */
     FELLUNQA_CONTEXT = 9,
