@@ -1,11 +1,12 @@
 -- What save answers and leaves, and what load finds, case by case.
 use mathlib.Core.Path.{_≡_, refl, sym, ap, _∙_}
-use mathlib.Core.Bool.{Bool, true, false, _&&_}
+use mathlib.Core.Bool.{Bool, true, false, _&&_, _||_}
 use mathlib.Core.List.{List, [], _∷_, _++_}
 use Prim.Native.Nat.{ℕ, zero, suc, _-_, _≤_, _<_, min}
+use borrow.Author.Tests.{ne-eqb}
 use native.Mathlib.Nat.{min-le-right, not-suc-le-zero, le-of-suc-le-suc}
 use native.Mathlib.Omega.{arith}
-use lib.Dec.{T, ltb, lt→ltb}
+use lib.Dec.{T, eqb, ltb, lt→ltb}
 use lib.ListN.{length, drop, getD, replicate}
 use Rattle.masks.specs.Bytes.{front}
 use Rattle.masks.proofs.Truth.{T→true, T→false, le→nltb}
@@ -13,7 +14,7 @@ use Rattle.model.specs.declared.Register.{Register}
 use Rattle.model.specs.State.{capabilityAt, blankCapability}
 use Rattle.model.specs.Rules.{wellFormed}
 use Rattle.model.specs.Rulings.{Outcome, value, refused, Effect, settle}
-use Rattle.model.specs.Image.{readCapabilities, afterChosen, encode, decode, loads, saveEffect, savedBuffer, loadEffect}
+use Rattle.model.specs.Image.{readCapabilities, afterChosen, encode, decode, empty, loads, saveEffect, savedBuffer, loadEffect}
 use Rattle.rules.specs.Columns.{BlankFrom}
 use Rattle.fields.specs.Codes.{Bytes}
 use Rattle.decoding.specs.Exact.{exactImage}
@@ -62,6 +63,10 @@ pub load-refused : (s : List ℕ) (before : Register) → loads s ≡ false → 
 unfolding loadEffect settle
 load-refused s before e = rw e
 
+empty-length : (s : List ℕ) → empty s ≡ eqb (length s) 0
+empty-length [] = refl
+empty-length (b ∷ s) = sym (ne-eqb (length (b ∷ s)) 0 (λ e. omega (arith, e)))
+
 module _ (s : List ℕ) (r : Register) (read : r ≡ decode s) where
   -- the places past the count are blank
   pub read-blank : r .count ≤ 256 → BlankFrom r (r .count)
@@ -73,8 +78,8 @@ module _ (s : List ℕ) (r : Register) (read : r ≡ decode s) where
       (h, ap (λ (q : Register). capabilityAt (q .capabilities) n) read ∙ getD-past (readCapabilities k d) (256 - k) n blankCapability past)
 
   -- the tests of the code are those of load
-  pub load-tested : Bytes s → (formed exact : Bool) → formed ≡ wellFormed r → exact ≡ exactImage s → loads s ≡ (formed && exact)
-  load-tested b formed exact ef ee = loads-exact s b ∙ rw (← read, ← ef, ← ee)
+  pub load-tested : Bytes s → (formed exact : Bool) → formed ≡ wellFormed r → exact ≡ exactImage s → loads s ≡ (formed && (eqb (length s) 0 || exact))
+  load-tested b formed exact ef ee = loads-exact s b ∙ rw (← read, ← ef, ← ee, empty-length s)
 
   -- accepted, load leaves what was read
   pub load-accepted : (before : Register) → loads s ≡ true → effect (value 0) r ≡ loadEffect before s

@@ -1,34 +1,34 @@
--- The bytes that are loaded are those that hold a register that keeps the rules and are exact: the test of the bytes needs no image
--- written again to compare with.
+-- The bytes that are loaded are those that hold a register that keeps the rules and are exact, and no bytes: the test of the bytes
+-- needs no image written again to compare with.
 use mathlib.Core.Path.{_≡_, refl, sym, ap, subst, _∙_}
-use mathlib.Core.Bool.{Bool, _&&_}
-use mathlib.Core.List.{List, _++_, append-assoc}
+use mathlib.Core.Bool.{Bool, _&&_, _||_}
+use mathlib.Core.List.{List, [], _∷_, _++_, append-assoc, cons≢nil}
 use Prim.Native.Nat.{ℕ, zero, suc, _+_, _-_, _≤_, min}
 use native.Mathlib.Nat.{min-eq-right}
 use native.Mathlib.Omega.{arith}
 use lib.Dec.{T, eqb, eqb→eq}
 use lib.ListN.{length, drop, replicate}
 use lib.Seq.{drop-at, drop-drop, take-at}
-use Rattle.buffers.proofs.Comparing.{same-eq}
-use Rattle.masks.specs.Bytes.{bytesOf, numberOf, mapBytes, firstBytes, sameBytes}
-use Rattle.masks.proofs.Truth.{true→T, T→true, and-l, and-r, and-i, same-test, eq→eqb}
+use Rattle.masks.specs.Bytes.{bytesOf, numberOf, mapBytes, firstBytes}
+use Rattle.masks.proofs.Truth.{and-l, and-r, and-i, same-test, eq→eqb}
 use Rattle.model.specs.declared.Register.{Register}
 use Rattle.model.specs.State.{blankRole, blankCapability, blankSession}
 use Rattle.model.specs.Rules.{wellFormed}
 use Rattle.model.specs.Invariant.{WellFormed}
 use Rattle.model.specs.Fields.{writeRole, readRole, writeSession, readSession, capabilityLength}
-use Rattle.model.specs.Image.{writeChosen, readChosen, chosenLength, writeCapabilities, readCapabilities, afterCapabilities, mapAt, afterChosen, activeSessions, encode, decode, loads}
+use Rattle.model.specs.Image.{writeChosen, readChosen, chosenLength, writeCapabilities, readCapabilities, afterCapabilities, mapAt, afterChosen, activeSessions, encode, decode, empty, loads}
 use Rattle.model.proofs.Rules.{formed→}
 use Rattle.fields.specs.Codes.{Bytes}
 use Rattle.records.specs.Exact.{exactCapabilities, capabilitiesLength}
 use Rattle.decoding.specs.Exact.{exactSessions, exactImage}
-use Rattle.fields.proofs.Numbers.{length-bytes, length-map, same-refl}
+use Rattle.fields.proofs.Numbers.{length-bytes, length-map}
 use Rattle.fields.proofs.Reading.{bytes-drop, mask-small}
 use Rattle.fields.proofs.ExactFields.{first-join, first-all, number-again, map-again}
 use Rattle.records.proofs.ExactRecords.{capabilities-at, capabilities-again}
 use Rattle.records.proofs.ExactWriting.{capabilities-exact, capabilities-length}
 use Rattle.encoding.proofs.Lengths.{image-size}
 use Rattle.image.proofs.RoundTrip.{sessionsPart, created, capabilitiesPart, rolesPart, usersPart, users, roles, sessions, amount, ranges, count-back, few, count-drop, created-after}
+use Rattle.image.proofs.Accepted.{some-saved, saved-loads}
 use Rattle.image.proofs.ExactSections.{domains-again, roles-again, sessions-again, founded-again, active-again, sessions-whole}
 
 -- ---- exact bytes are written again as they were
@@ -188,20 +188,20 @@ count-small : (s : List ℕ) → WellFormed (decode s) → numberOf (firstBytes 
 unfolding decode
 count-small s w = w .count
 
-module _ (s : List ℕ) where
-  loaded-exact : T (loads s) → T (wellFormed (decode s) && exactImage s)
-  unfolding loads
-  loaded-exact t =
-      let w : T (wellFormed (decode s)) = and-l (wellFormed (decode s)) (sameBytes (encode (decode s)) s) t in
-      let saved : encode (decode s) ≡ s = same-eq (encode (decode s)) s (T→true _ (and-r (wellFormed (decode s)) (sameBytes (encode (decode s)) s) t)) in
-      and-i (wellFormed (decode s)) (exactImage s) w (subst (λ (l : List ℕ). T (exactImage l)) saved (image-exact (decode s) (formed→ (decode s) w)))
+loaded-exact : (s : List ℕ) → T (loads s) → T (wellFormed (decode s) && (empty s || exactImage s))
+unfolding loads
+loaded-exact [] t = t
+loaded-exact (b ∷ s) t =
+    let w : T (wellFormed (decode (b ∷ s))) = and-l (wellFormed (decode (b ∷ s))) _ t in
+    and-i (wellFormed (decode (b ∷ s))) (exactImage (b ∷ s)) w
+    (subst (λ (l : List ℕ). T (exactImage l)) (some-saved (b ∷ s) t cons≢nil) (image-exact (decode (b ∷ s)) (formed→ (decode (b ∷ s)) w)))
 
-  exact-loaded : Bytes s → T (wellFormed (decode s) && exactImage s) → T (loads s)
-  unfolding loads
-  exact-loaded h t =
-      let w : T (wellFormed (decode s)) = and-l (wellFormed (decode s)) (exactImage s) t in
-      let saved : encode (decode s) ≡ s = exact-saved s h (count-small s (formed→ (decode s) w)) (and-r (wellFormed (decode s)) (exactImage s) t) in
-      and-i (wellFormed (decode s)) (sameBytes (encode (decode s)) s) w (true→T _ (ap (λ (l : List ℕ). sameBytes l s) saved ∙ same-refl s))
+exact-loaded : (s : List ℕ) → Bytes s → T (wellFormed (decode s) && (empty s || exactImage s)) → T (loads s)
+unfolding loads
+exact-loaded [] h t = t
+exact-loaded (b ∷ s) h t =
+    let w : T (wellFormed (decode (b ∷ s))) = and-l (wellFormed (decode (b ∷ s))) _ t in
+    saved-loads (b ∷ s) w (exact-saved (b ∷ s) h (count-small (b ∷ s) (formed→ (decode (b ∷ s)) w)) (and-r (wellFormed (decode (b ∷ s))) _ t))
 
-pub loads-exact : (s : List ℕ) → Bytes s → loads s ≡ (wellFormed (decode s) && exactImage s)
-loads-exact s h = same-test (loads s) (wellFormed (decode s) && exactImage s) (loaded-exact s) (exact-loaded s h)
+pub loads-exact : (s : List ℕ) → Bytes s → loads s ≡ (wellFormed (decode s) && (empty s || exactImage s))
+loads-exact s h = same-test (loads s) (wellFormed (decode s) && (empty s || exactImage s)) (loaded-exact s) (exact-loaded s h)

@@ -1,16 +1,13 @@
--- A register that keeps the rules is read again from its image, and only such images are accepted.
+-- A register that keeps the rules is read again from its image.
 use mathlib.Core.Path.{_≡_, refl, sym, ap, _∙_}
 use mathlib.Core.List.{List, [], _++_, append-nil}
-use Prim.Native.Nat.{ℕ, _+_, _-_, _*_, _/_, _%_, _^_, _≤_, _<_, min}
+use Prim.Native.Nat.{ℕ, _+_, _-_, _^_, _≤_, _<_, min}
 use native.Mathlib.Nat.{min-eq-right}
 use native.Mathlib.Omega.{arith}
-use lib.Dec.{T, eqb}
+use lib.Dec.{T}
 use lib.ListN.{length, take, drop, getD, replicate, length-append, length-drop, length-replicate, getD-replicate, take-append-drop}
 use lib.Seq.{drop-at, length-take-le, getD-take, getD-drop, ext-getD}
-use Rattle.buffers.proofs.Comparing.{same-eq}
-use Rattle.masks.specs.Masks.{has}
-use Rattle.masks.specs.Bytes.{bytesOf, numberOf, mapBytes, firstBytes, sameBytes}
-use Rattle.masks.proofs.Truth.{true→T, T→true, and-l, and-r, and-i}
+use Rattle.masks.specs.Bytes.{bytesOf, numberOf, mapBytes, firstBytes}
 use Rattle.model.specs.declared.Role.{Role}
 use Rattle.model.specs.declared.Capability.{Capability}
 use Rattle.model.specs.declared.Session.{Session}
@@ -19,13 +16,11 @@ use Rattle.model.specs.State.{blankRole, blankCapability, blankSession}
 use Rattle.model.specs.Rules.{wellFormed}
 use Rattle.model.specs.Invariant.{WellFormed}
 use Rattle.model.specs.Fields.{writeRole, readRole, writeSession, readSession}
-use Rattle.model.specs.Image.{writeChosen, writeCapabilities, readChosen, readCapabilities, afterCapabilities, afterChosen, mapAt, foundedRoles, activeSessions, encode, decode, loads}
+use Rattle.model.specs.Image.{writeChosen, writeCapabilities, readChosen, readCapabilities, afterCapabilities, afterChosen, mapAt, foundedRoles, activeSessions, encode, decode}
 use Rattle.model.proofs.Rules.{formed→}
-use Rattle.image.specs.Laws.{ImageOf, ImageLaws}
-use Rattle.fields.proofs.Numbers.{length-bytes, length-map, number-back, map-item, same-refl}
+use Rattle.fields.proofs.Numbers.{length-bytes, length-map, number-back}
 use Rattle.records.proofs.Records.{domain-good, role-good, role-size, session-good, session-size, AllInRange, in-range, capabilities-back, capabilities-after}
 use Rattle.encoding.proofs.Turns.{where-small}
-use Rattle.encoding.proofs.Lengths.{image-small}
 use Rattle.decoding.proofs.Decoding.{readDomain, registerOf, same-register}
 use Rattle.image.proofs.Sections.{Kept, kept, Section, section-back, has-where}
 
@@ -192,46 +187,10 @@ decode-encode r h =
     (capabilities-again r h)
     (sessions r h .items)
 
+pub back : (r : Register) → T (wellFormed r) → decode (encode r) ≡ r
+back r h = decode-encode r (formed→ r h)
+
 pub image-length : (r : Register) → 26 ≤ length (encode r)
 unfolding encode
 image-length r =
     simp (length-append, length-map) (omega arith)
-
--- ---- what is accepted
-
-module _ (s : List ℕ) (h : T (loads s)) where
-  formed : T (wellFormed (decode s))
-  unfolding loads
-  formed = and-l (wellFormed (decode s)) (sameBytes (encode (decode s)) s) h
-
-  saved : encode (decode s) ≡ s
-  unfolding loads
-  saved = same-eq (encode (decode s)) s (T→true _ (and-r (wellFormed (decode s)) (sameBytes (encode (decode s)) s) h))
-
-back : (r : Register) → T (wellFormed r) → decode (encode r) ≡ r
-back r h = decode-encode r (formed→ r h)
-
-image-loads : (s : List ℕ) (r : Register) → ImageOf s r → T (loads s)
-unfolding loads
-image-loads s r h =
-    let e : decode s ≡ r = ap decode (sym (h .1)) ∙ back r (h .0) in
-    and-i (wellFormed (decode s)) (sameBytes (encode (decode s)) s)
-    (rw e (h .0))
-    (true→T _ (ap (λ (q : Register). sameBytes (encode q) s) e ∙ ap (λ (l : List ℕ). sameBytes l s) (h .1) ∙ same-refl s))
-
-mask-item : (w m k : ℕ) → k < 8 * w → has (getD (mapBytes w m) (k / 8) 0) (k % 8) ≡ has m k
-unfolding has
-mask-item w m k h = ap (λ (x : ℕ). eqb x 1) (map-item w m k h)
-
-pub image-laws : ImageLaws
-image-laws =
-    record {
-      round-trip = back;
-      injective = λ q r f g e. sym (back q f) ∙ ap decode e ∙ back r g;
-      accepted = λ s. ((λ h. (decode s, (formed s h, saved s h))), (λ p. image-loads s (p .0) (p .1)));
-      loaded = λ s r h i. ap decode (sym (i .1)) ∙ back r (i .0);
-      saved-again = saved;
-      least = image-length;
-      most = λ r h. image-small r (formed→ r h);
-      map-item = mask-item;
-    }

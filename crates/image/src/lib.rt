@@ -46,20 +46,20 @@ pub fn save(r: Register, buffer: &mut [u8]) -> Answer
     save_trusted(r, buffer)
 }
 
-// The register in an image, and whether the bytes are one: `exact` is the whole test of load here. Where they are not, the register
-// is what was read of them, and not to be used.
+// The register in an image, and whether load accepts the bytes: `exact` is its whole test here. No bytes are read as zero bytes, so
+// the empty image is the fresh register. Where they are not accepted, the register is what was read of them, and not to be used.
 pub fn read_checked(s: &[u8]) -> ReadImage
     ensures { λ q. ⌜ (q .exact ≡ loads (now (s .entry))) × (q .register ≡ decode (now (s .entry))) ⌝ }
 {
     let mut read = read_image(s);
     let register = read.register;
     let formed = well_formed_read(register);
-    read.exact = formed & read.exact;
+    let none = s.len() == 0;
+    read.exact = formed & (none | read.exact);
     read
 }
 
-// "load an image. 14 only: not exactly the layout below, a number out of range, or a shelf rule broken." Refused, the register
-// stays as it was.
+// load (§8.5.1): the register of the image, the fresh one of no bytes. Refused with 14, the register stays as it was.
 pub fn load(r: Register, s: &[u8]) -> Reply
     ensures { λ q. ⌜ effectOf q ≡ loadEffect r (now (s .entry)) ⌝ }
 {

@@ -40,6 +40,8 @@ image-cases =
       loaded = refl;
       saved = save-quick full 149 kept ∙ ap (λ (r : Register). save-alone r 149) quickly ∙ refl;
       saved-short = save-quick full 148 kept ∙ ap (λ (r : Register). save-alone r 148) quickly ∙ refl;
+      saved-fresh = save-quick fresh 26 (kept→ fresh fresh-formed);
+      saved-nowhere = save-quick fresh 0 (kept→ fresh fresh-formed);
       saved-into = ap (λ (r : Register). savedBuffer r (replicate 151 7) (value 149)) quickly ∙ refl;
     }
   where
@@ -58,6 +60,11 @@ entry-cases =
       own-before-room = refl;
       line-before-room = refl;
       image-before-line = refl;
+      new-client = refl;
+      new-client-room = refl;
+      new-client-own = refl;
+      new-client-line = refl;
+      one-byte = refl;
       unended = refl;
       two-lines = refl;
       negative = refl;

@@ -33,3 +33,4 @@ pub mod OrderCases
 pub mod JournalCases
 pub mod ImageCases
 pub mod Runs
+pub mod EmptyImage

@@ -4,7 +4,6 @@ use mathlib.Core.List.{List, [], _∷_}
 use Prim.Native.Nat.{ℕ}
 use lib.Dec.{T, ltb}
 use lib.ListN.{length}
-use Rattle.masks.specs.Bytes.{sameBytes}
 use Rattle.masks.proofs.Truth.{and-l}
 use Rattle.model.specs.declared.Register.{Register}
 use Rattle.model.specs.Rules.{wellFormed}
@@ -71,7 +70,7 @@ step-keeps r c k =
 -- save leaves the register; an accepted load answers one that keeps the rules
 pub loads-kept : (s : List ℕ) → T (loads s) → Kept (decode s)
 unfolding loads
-loads-kept s h = kept→ (decode s) (and-l (wellFormed (decode s)) (sameBytes (encode (decode s)) s) h)
+loads-kept s h = kept→ (decode s) (and-l (wellFormed (decode s)) _ h)
 
 pub perform-keeps : (r : Register) (e : Event) → Kept r → Kept ((perform r e) .after)
 unfolding perform saveEffect loadEffect

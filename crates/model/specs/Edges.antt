@@ -113,8 +113,10 @@ pub record Edges : Type 0 where
       ∷ revoke 4 0 gets refused 6
       ∷ revoke 3 0 gets value 3
       ∷ []))
-  -- "E8 26 zero bytes load fresh; 25 or 27 give 14."
+  -- E8 (§12.1.1): no bytes and 26 zero bytes load fresh; 1, 25 or 27 give 14
   pub e8 : (r : Register) → perform r (load (replicate 26 0)) ≡ record { answer = value 0; after = fresh }
+  pub e8-empty : (r : Register) → perform r (load []) ≡ record { answer = value 0; after = fresh }
+  pub e8-one : (r : Register) → perform r (load (0 ∷ [])) ≡ record { answer = refused 14; after = r }
   pub e8-short : (r : Register) → perform r (load (replicate 25 0)) ≡ record { answer = refused 14; after = r }
   pub e8-long : (r : Register) → perform r (load (replicate 27 0)) ≡ record { answer = refused 14; after = r }
   -- "marking only direct children": a grandchild is marked too

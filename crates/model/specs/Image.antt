@@ -1,5 +1,5 @@
 -- Document 01, "The image", and the calls save and load.
-use mathlib.Core.Bool.{Bool, _&&_}
+use mathlib.Core.Bool.{Bool, true, false, _&&_, _||_}
 use mathlib.Core.List.{List, [], _∷_, _++_}
 use Prim.Native.Nat.{ℕ, zero, suc, _+_, _-_, _*_, _/_, _%_, min}
 use lib.Dec.{ltb}
@@ -120,10 +120,15 @@ abbrev pub savedBuffer : Register → List ℕ → Outcome → List ℕ
 savedBuffer r buffer (value v) = front (encode r) buffer
 savedBuffer r buffer (refused n) = buffer
 
--- the bytes are the image of a register that keeps the shelf rules, and that register is `decode s`
-unfoldable pub loads : List ℕ → Bool
-loads s = wellFormed (decode s) && sameBytes (encode (decode s)) s
+-- the empty image, that of a new client (§8.5.3)
+abbrev pub empty : List ℕ → Bool
+empty [] = true
+empty (b ∷ s) = false
 
--- "load an image. 14 only: not exactly the layout below, a number out of range, or a shelf rule broken."
+-- what is accepted (§8.5.1): no bytes, or those that a register saves; the register is `decode s` and keeps the rules
+unfoldable pub loads : List ℕ → Bool
+loads s = wellFormed (decode s) && (empty s || sameBytes (encode (decode s)) s)
+
+-- load (§8.5.1): 14 is its only refusal
 unfoldable pub loadEffect : Register → List ℕ → Effect Register
 loadEffect r s = settle r (14 unless (loads s ∷ []) ∷ []) 0 (decode s)

@@ -134,6 +134,9 @@ pub record ImageCases : Type 0 where
   pub saved : (perform full (save 149)) .answer ≡ value 149
   -- one byte less is not
   pub saved-short : (perform full (save 148)) .answer ≡ refused 16
+  -- a fresh register has 26 bytes, though it loads from none; an area without bytes has no room for them
+  pub saved-fresh : (perform fresh (save 26)) .answer ≡ value 26
+  pub saved-nowhere : (perform fresh (save 0)) .answer ≡ refused 16
   -- save leaves the bytes after them
   pub saved-into : savedBuffer full (replicate 151 7) (value 149) ≡ image ++ (7 ∷ 7 ∷ [])
 
@@ -148,6 +151,12 @@ pub record EntryCases : Type 0 where
   pub line-before-room : on-fresh (line "enrol 3") 0 ≡ declined 1
   -- 14 comes first of all
   pub image-before-line : entry (replicate 25 0) (line "enrol 3") 0 ≡ declined 14
+  -- an image without bytes is a new client's, with the same room and the same refusals; one zero byte is none
+  pub new-client : entry [] (line "enrol 3 2") 29 ≡ done 0 enrolled-3
+  pub new-client-room : entry [] (line "enrol 3 2") 28 ≡ declined 16
+  pub new-client-own : entry [] (line "check 0 0") 99 ≡ declined 3
+  pub new-client-line : entry [] [] 0 ≡ declined 1
+  pub one-byte : entry (0 ∷ []) (line "enrol 3 2") 29 ≡ declined 14
   -- the line has its line feed
   pub unended : on-fresh (bytes "enrol 3 2") 29 ≡ declined 1
   -- it is one line

@@ -28,3 +28,4 @@ pub mod Cases
 pub mod OrderCases
 pub mod JournalCases
 pub mod ImageCases
+pub mod EmptyImage

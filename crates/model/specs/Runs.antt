@@ -1,7 +1,7 @@
 -- What runs is a list of calls, so that `ListTheorem` speaks of it: a journal, batches one after the other, and a chain of calls
 -- from C. `proofs/Runs.antt` proves the first two and `EntryReturns`; crate `promise`, above the round trip of images, `EntryRuns`.
 use mathlib.Core.Path.{_≡_}
-use mathlib.Core.Logic.{_≢_}
+use mathlib.Core.Logic.{_↔_, _≢_}
 use mathlib.Core.Bool.{not, cond}
 use mathlib.Core.List.{List, [], _∷_, _++_, map}
 use mathlib.Core.Option.{Option, none, some}
@@ -167,14 +167,23 @@ chainAnswers image (i ∷ more) = addFor (callBy image i) (λ c. answerReturned 
 abbrev pub chainList : List ℕ → List Invocation → List Event
 chainList image is = calls (chainCalls image is)
 
+-- each call is refused on this image
+abbrev pub EachRefused : List ℕ → List Invocation → Type 0
+EachRefused image [] = Unit {0}
+EachRefused image (i ∷ more) = ((n : ℕ) × (invoked image i ≡ declined n)) × EachRefused image more
+
 pub record EntryRuns : Type 0 where
   -- a return of a value leaves in the area an image that is accepted, and its register is the call's
   pub accepted : (image line area new : List ℕ) (v : ℕ) → entry image line (length area) ≡ done v new
       → (c : Call) × Accepted image line (length area) v new c × (imageIn (bufferAfter (done v new) area) ≡ new) × T (loads new) × (decode new ≡ next (decode image) c)
-  -- from an accepted image, the last image of a chain is accepted, its register is that of the list, and it is that register's image
+  -- from an accepted image, the last image of a chain is accepted, and its register is that of the list
   pub loaded : (image : List ℕ) (is : List Invocation) → T (loads image) → T (loads (chain image is))
   pub register : (image : List ℕ) (is : List Invocation) → T (loads image) → decode (chain image is) ≡ run (decode image) (chainList image is)
-  pub saved : (image : List ℕ) (is : List Invocation) → T (loads image) → chain image is ≡ encode (run (decode image) (chainList image is))
+  -- it is what that register saves, unless it is the empty one
+  pub saved : (image : List ℕ) (is : List Invocation) → T (loads image)
+      → (chain image is ≡ encode (run (decode image) (chainList image is))) ↔ (chain image is ≢ [])
+  -- and that it is just where the chain begins with the empty image and every call is refused
+  pub still-empty : (image : List ℕ) (is : List Invocation) → T (loads image) → (chain image is ≡ []) ↔ ((image ≡ []) × EachRefused image is)
   -- what is returned to these calls are the list's answers, values and refusals
   pub answered : (image : List ℕ) (is : List Invocation) → T (loads image) → answers (decode image) (chainList image is) ≡ chainAnswers image is
   -- so the guarantee holds of what C keeps

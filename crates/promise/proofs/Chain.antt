@@ -1,5 +1,6 @@
 -- A chain of calls from C is a list: an image that is returned is read again as the register that it was written of.
 use mathlib.Core.Path.{_≡_, refl, sym, ap, ap₂, _∙_, subst}
+use mathlib.Core.Logic.{inr, _≢_}
 use mathlib.Core.Bool.{Bool, true, false, cond}
 use mathlib.Core.List.{List, [], _∷_, _++_, append-assoc}
 use mathlib.Core.Option.{Option, none, some}
@@ -16,17 +17,20 @@ use Rattle.model.specs.Image.{encode, decode, loads}
 use Rattle.model.specs.Entry.{Return, declined, done, soleLine, bufferAfter}
 use Rattle.model.specs.Lists.{call, calls, perform, run, answers, derivedFrom}
 use Rattle.model.specs.Theorem.{asked, next, Guarantee}
-use Rattle.model.specs.Runs.{Accepted, Declined, no-image, no-call, not-accepted, no-room, Invocation, invoked, imageIn, imageAfter, chain, callAnswered, answerReturned, addFor, chainCalls, chainAnswers, chainList, EntryRuns}
+use Rattle.model.specs.Runs.{Accepted, Declined, no-image, no-call, not-accepted, no-room, Invocation, invoked, imageIn, imageAfter, chain, callAnswered, answerReturned, addFor, chainCalls, chainAnswers, chainList, EachRefused, EntryRuns}
 use Rattle.model.proofs.Rules.{kept←}
 use Rattle.model.proofs.Running.{step-keeps, loads-kept}
 use Rattle.model.proofs.EachAnswer.{each-answer}
 use Rattle.model.proofs.ListTheorem.{list-theorem}
 use Rattle.model.proofs.Runs.{entry-returns}
 use Rattle.image.specs.Laws.{ImageOf}
-use Rattle.image.proofs.RoundTrip.{image-laws}
+use Rattle.image.proofs.Accepted.{image-laws}
 use Rattle.fields.proofs.Numbers.{length-bytes, number-back}
 
 -- ---- one call
+
+some-bytes : (r : Register) → encode r ≢ []
+some-bytes r e = omega (arith, image-laws .least r, ap length e)
 
 -- a refused call leaves the register as it was
 call-stays : (r : Register) (c : Call) {n : ℕ} → asked r c ≡ refused n → next r c ≡ r
@@ -48,13 +52,16 @@ module _ (image line new : List ℕ) (room v : ℕ) (c : Call) (a : Accepted ima
   image-of = (kept← _ (step-keeps (decode image) c (loads-kept image (a .loaded))), sym (a .saved))
 
   new-loads : T (loads new)
-  new-loads = image-laws .accepted new .1 (next (decode image) c, image-of)
+  new-loads = image-laws .accepted new .1 (inr (next (decode image) c, image-of))
 
   new-register : decode new ≡ next (decode image) c
   new-register = image-laws .loaded new (next (decode image) c) new-loads image-of
 
   new-small : length new ≤ 13402
   new-small = subst (λ (s : List ℕ). length s ≤ 13402) (sym (a .saved)) (image-laws .most (next (decode image) c) (image-of .0))
+
+  new-some : new ≢ []
+  new-some e = some-bytes _ (sym (a .saved) ∙ e)
 
 -- ---- a chain
 
@@ -123,6 +130,32 @@ unfolding chain chainCalls chainAnswers run answers
 chained image [] h = (h, refl, refl)
 chained image (i ∷ more) h = call-more image i more (λ kept l. chained kept more l) (invoked image i) refl h
 
+-- ---- a chain that ends with the empty image
+
+-- refused calls leave what is kept
+refused-chain : (image : List ℕ) (is : List Invocation) → EachRefused image is → chain image is ≡ image
+unfolding chain
+refused-chain image [] h = refl
+refused-chain image (i ∷ more) h = ap (λ (q : Return). chain (imageAfter image (i .area) q) more) (h .0 .1) ∙ refused-chain image more (h .1)
+
+abbrev BeganEmpty : List ℕ → List Invocation → Type 0
+BeganEmpty image is = (image ≡ []) × EachRefused image is
+
+empty-more : (image : List ℕ) (i : Invocation) (more : List Invocation) → ((kept : List ℕ) → T (loads kept) → chain kept more ≡ [] → BeganEmpty kept more)
+    → T (loads image) → (q : Return) → invoked image i ≡ q → chain (imageAfter image (i .area) q) more ≡ [] → BeganEmpty image (i ∷ more)
+empty-more image i more ih h (declined n) e c = let p : BeganEmpty image more = ih image h c in (p .0, ((n, e), p .1))
+empty-more image i more ih h (done v new) e c =
+    let line : List ℕ = i .line in
+    let room : ℕ = length (i .area) in
+    let found : (c : Call) × Accepted image line room v new c = entry-returns .value-returned image line new room v e in
+    let here : chain new more ≡ [] = ap (λ (s : List ℕ). chain s more) (sym (image-read new (i .area) v (new-small image line new room v (found .0) (found .1)))) ∙ c in
+    absurd (new-some image line new room v (found .0) (found .1) (ih new (new-loads image line new room v (found .0) (found .1)) here .0))
+
+empty-chain : (image : List ℕ) (is : List Invocation) → T (loads image) → chain image is ≡ [] → BeganEmpty image is
+unfolding chain
+empty-chain image [] h e = (e, tt)
+empty-chain image (i ∷ more) h e = empty-more image i more (λ kept l. empty-chain kept more l) h (invoked image i) refl e
+
 pub entry-runs : EntryRuns
 entry-runs =
     record {
@@ -134,7 +167,11 @@ entry-runs =
           (c, a, image-read new area v (new-small image line new room v c a), new-loads image line new room v c a, new-register image line new room v c a);
       loaded = λ image is h. chained image is h .0;
       register = λ image is h. chained image is h .1;
-      saved = λ image is h. sym (image-laws .saved-again (chain image is) (chained image is h .0)) ∙ ap encode (chained image is h .1);
+      saved = λ image is h. (
+        (λ e n. some-bytes _ (sym e ∙ n)),
+        (λ n. sym (image-laws .saved-again (chain image is) (chained image is h .0) .1 n) ∙ ap encode (chained image is h .1)),
+      );
+      still-empty = λ image is h. (empty-chain image is h, λ p. refused-chain image is (p .1) ∙ p .0);
       answered = λ image is h. chained image is h .2;
       guaranteed = λ image is h.
           subst

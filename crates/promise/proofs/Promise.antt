@@ -3,13 +3,14 @@ use Rattle.model.proofs.ListTheorem.{list-theorem}
 use Rattle.model.proofs.EachAnswer.{each-answer}
 use Rattle.model.proofs.Lives.{life-laws}
 use Rattle.model.proofs.Runs.{journal-runs, batches-run, entry-returns}
+use Rattle.model.proofs.EmptyImage.{empty-image}
 use Rattle.model.proofs.Edges.{fresh-formed, edges}
 use Rattle.model.proofs.Listing.{listing-played}
 use Rattle.model.proofs.Cases.{call-cases}
 use Rattle.model.proofs.OrderCases.{order-cases}
 use Rattle.model.proofs.JournalCases.{journal-cases}
 use Rattle.model.proofs.ImageCases.{image-cases, entry-cases}
-use Rattle.image.proofs.RoundTrip.{image-laws}
+use Rattle.image.proofs.Accepted.{image-laws}
 use Rattle.promise.specs.Promise.{Promise}
 use Rattle.promise.proofs.Chain.{entry-runs}
 use Rattle.promise.proofs.Contracts.{contracts}
@@ -26,6 +27,7 @@ promise =
       entry-returns = entry-returns;
       entry-runs = entry-runs;
       image-laws = image-laws;
+      empty-image = empty-image;
       edges = edges;
       listing = listing-played;
       call-cases = call-cases;

@@ -9,6 +9,7 @@ use contract.Monad.{Fun}
 use Rattle.model.specs.Theorem.{ListTheorem, FreshStart, EachAnswer}
 use Rattle.model.specs.Runs.{JournalRuns, BatchesRun, EntryReturns, EntryRuns}
 use Rattle.model.specs.Lives.{LifeLaws}
+use Rattle.model.specs.EmptyImage.{EmptyImage}
 use Rattle.model.specs.Edges.{Edges}
 use Rattle.model.specs.Listing.{Listing}
 use Rattle.model.specs.Cases.{CallCases}
@@ -32,8 +33,10 @@ pub record Promise : Type 2 where
   pub batches-run : BatchesRun
   pub entry-returns : EntryReturns
   pub entry-runs : EntryRuns
-  -- an image is read back as its register, and nothing else is accepted (`image`, Laws.antt)
+  -- an image is read back as its register, and nothing else is accepted but the empty image (`image`, Laws.antt)
   pub image-laws : ImageLaws
+  -- the empty image is the fresh register: to load, in lists, at the entry point and in chains of calls from C (`model`, EmptyImage.antt)
+  pub empty-image : EmptyImage
   -- the worked cases E1 to E8 and the four mistakes (`model`, Edges.antt), and the listing (`model`, Listing.antt)
   pub edges : Edges
   pub listing : Listing
