@@ -1,7 +1,7 @@
 //! Generators for tests and comparisons, all driven by a seeded
 //! [`crate::random::Random`]: requests that are mostly meaningful, registers
-//! that keep the rules, and damage to registers and images; and a count of the
-//! requests that meet the border of a life.
+//! that keep the rules, damage to registers and images, and images of few bytes;
+//! and a count of the requests that meet the border of a life.
 
 pub mod borders;
 pub mod damage;
@@ -10,12 +10,14 @@ mod lives;
 pub mod profile;
 pub mod registers;
 pub mod requests;
+pub mod short;
 
 pub use borders::{Border, Borders};
 pub use damage::{damage_image, damage_register};
 pub use profile::Profile;
 pub use registers::register;
 pub use requests::{request, requests};
+pub use short::short_image;
 
 /// Numbers at and around the edges of the ranges (§1.2.1, §1.2.2).
 pub const BOUNDARIES: [u64; 30] = [

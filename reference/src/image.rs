@@ -6,11 +6,11 @@
 
 mod reader;
 
-use crate::refusal::{refuse_if, BAD_IMAGE, BUFFER_TOO_SHORT, NOT_WELL_FORMED};
+use crate::refusal::{refuse_if, Answer, BAD_IMAGE, BUFFER_TOO_SHORT, NOT_WELL_FORMED};
 use crate::register::{Capability, Origin, Register, Role, Session, CAPABILITIES};
 use crate::rules::well_formed;
 
-/// The bytes of a fresh register's image (§8.3.1).
+/// The bytes that a fresh register saves (§8.3.1); no register saves fewer.
 pub const SHORTEST: usize = 26;
 /// No image is longer (§8.3.1).
 pub const LONGEST: usize = 13_402;
@@ -26,11 +26,23 @@ pub fn save(register: &Register, buffer: &mut [u8]) -> Result<usize, u8> {
     Ok(image.len())
 }
 
-/// The register of an image; 14 to all other bytes (§8.5).
+/// The register of an image; 14 to all other bytes (§8.5.1). An image without
+/// bytes is that of a new client (§8.5.3): it shows the fresh register, and
+/// alone among the accepted ones it is not what its register saves (§8.6.2).
 pub fn load(image: &[u8]) -> Result<Register, u8> {
+    if image.is_empty() {
+        return Ok(Register::fresh());
+    }
     let register = reader::decode(image).ok_or(BAD_IMAGE)?;
     refuse_if(!well_formed(&register), BAD_IMAGE)?;
     Ok(register)
+}
+
+/// Load as a call of a list (§7.1.2): the register of the image takes the place
+/// of the one before, whatever that was, with the value 0; refused, it stays.
+pub fn load_into(register: &mut Register, image: &[u8]) -> Answer {
+    *register = load(image)?;
+    Ok(0)
 }
 
 /// The image of a register. It is defined on all registers, so that images of

@@ -17,7 +17,7 @@ pub mod request;
 pub mod rules;
 
 pub use calls::{apply, apply_trusted};
-pub use image::{encode, load, save};
+pub use image::{encode, load, load_into, save};
 pub use lines::{parse, print};
 pub use refusal::Answer;
 pub use register::{Capability, Context, Origin, Register, Role, Session};

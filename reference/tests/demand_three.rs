@@ -9,7 +9,7 @@ use monitor::{Monitor, Tally};
 use reference::generate::{self, Border, Profile};
 use reference::random::Random;
 use reference::request::WORDS;
-use reference::{encode, load, Register};
+use reference::{apply, encode, Register};
 
 /// So many lists of so many requests by the profile, each from a fresh
 /// register or, if `started`, from a random one.
@@ -109,7 +109,7 @@ fn lists_from_random_registers() {
 #[test]
 fn lists_with_loads() {
     let mut random = Random::new(6);
-    let (mut refused, mut accepted) = (0, 0);
+    let (mut refused, mut accepted, mut without_bytes) = (0, 0, 0);
     let mut monitor = Monitor::new(Register::fresh(), Tally::default());
     for _ in 0..12_000 {
         let request = generate::request(&mut random, &monitor.register, &Profile::small());
@@ -117,26 +117,49 @@ fn lists_with_loads() {
         if !random.chance(1, 40) {
             continue;
         }
-        let mut image = match random.chance(1, 8) {
-            true => encode(&generate::register(&mut random)),
-            false => encode(&monitor.register),
+        let mut image = match random.below(8) {
+            0 => encode(&generate::register(&mut random)),
+            1 => generate::short_image(&mut random, &encode(&monitor.register)),
+            _ => encode(&monitor.register),
         };
-        if random.chance(1, 2) {
+        if !image.is_empty() && random.chance(1, 2) {
             generate::damage_image(&mut random, &mut image);
         }
-        match load(&image) {
-            Ok(register) => {
-                accepted += 1;
-                monitor.load(register);
-            }
+        match monitor.load(&image) {
+            Ok(_) => accepted += 1,
             Err(number) => {
                 refused += 1;
                 assert_eq!(number, 14);
             }
         }
+        without_bytes += u32::from(image.is_empty());
     }
     assert!(accepted >= 50 && refused >= 50, "{accepted}, {refused}");
+    assert!(without_bytes >= 5, "{without_bytes}");
     assert!(monitor.tally.wide_revokes >= 10, "{:?}", monitor.tally);
+}
+
+/// After a load of no bytes, a list is answered as one from a fresh register,
+/// whatever came before (§7.1.2).
+#[test]
+fn lists_with_loads_of_no_bytes() {
+    let mut random = Random::new(9);
+    let mut monitor = Monitor::new(generate::register(&mut random), Tally::default());
+    let mut late = 0;
+    for _ in 0..60 {
+        late += u32::from(monitor.register.clock > 0 && monitor.register.count > 0);
+        assert_eq!(monitor.load(&[]), Ok(0));
+        assert_eq!(monitor.register, Register::fresh());
+        let length = random.below(200) as usize;
+        let list = generate::requests(&mut random, &Register::fresh(), &Profile::small(), length);
+        let mut from_fresh = Register::fresh();
+        for request in &list {
+            assert_eq!(monitor.step(request), apply(&mut from_fresh, request));
+        }
+        assert_eq!(monitor.register, from_fresh);
+    }
+    assert!(late >= 20, "{late}");
+    assert!(monitor.tally.accepted.iter().sum::<u64>() >= 1_000, "{:?}", monitor.tally);
 }
 
 /// The empty list: the start is all there is.

@@ -109,6 +109,14 @@ fn e8_26_zero_bytes_load_fresh() {
     assert_eq!(load(&[0; 27]), Err(14));
 }
 
+/// Beside E8: no bytes load as its 26 do, and a single one does not.
+#[test]
+fn e8_no_bytes_load_fresh_too() {
+    assert_eq!(load(&[]), Ok(Register::fresh()));
+    assert_eq!(load(&[0; 1]), Err(14));
+    assert_eq!(load(&[]), load(&[0; 26]));
+}
+
 /// Grandchildren are marked too (§12.2.1).
 #[test]
 fn mistake_revoke_marks_all_below() {

@@ -5,7 +5,7 @@ mod common;
 use common::{accept_all, after, longest_chain, sample};
 use reference::generate::{self, Profile};
 use reference::random::Random;
-use reference::{apply, encode, entry, lines, Register, Request};
+use reference::{apply, encode, entry, lines, load, Register, Request};
 
 /// The answer on a buffer of so many bytes; on refusal no byte is touched, on
 /// acceptance none after the image.
@@ -46,7 +46,7 @@ fn refusals_come_in_their_order() {
     refuses(&image, b"clock 10\n", 0, 16);
     refuses(&image, b"clock 10\n", image.len() + 1, 16);
     assert_eq!(accepts(&image, b"clock 10\n", image.len() + 2, 0), image);
-    refuses(&[], b"clock 10\n", 14_000, 14);
+    refuses(&[0; 1], b"clock 10\n", 14_000, 14);
     refuses(&[0; 25], b"clock 10\n", 14_000, 14);
     refuses(&[0; 27], b"clock 10\n", 14_000, 14);
 }
@@ -171,10 +171,94 @@ fn compare(register: &mut Register, image: &mut Vec<u8>, mut request: Request) -
     match apply(register, &request) {
         Ok(value) => {
             assert_eq!(answered, value as i64);
+            assert_eq!(new, encode(register));
             *image = new;
         }
         Err(number) => assert_eq!(answered, -i64::from(number)),
     }
-    assert_eq!(*image, encode(register));
+    assert_eq!(load(image).as_ref(), Ok(&*register));
     answered
+}
+
+/// Lines with what a fresh register answers if there is room, and the length of
+/// its new image.
+const ON_FRESH: [(&[u8], i64, usize); 16] = [
+    (b"clock 0\n", 0, 26),
+    (b"clock 7\n", 0, 26),
+    (b"clock 4294967295\n", 0, 26),
+    (b"enrol 63 7\n", 0, 27),
+    (b"found 31 7 0 65535 1\n", 0, 46),
+    (b"enrol 64 0\n", -2, 26),
+    (b"check 0 32\n", -2, 26),
+    (b"check 0 0\n", -3, 26),
+    (b"grant 0 0\n", -3, 26),
+    (b"revoke 0 0\n", -3, 26),
+    (b"same 0 0\n", -3, 26),
+    (b"", -1, 26),
+    (b"\n", -1, 26),
+    (b"clock 7", -1, 26),
+    (b"clock 07\n", -1, 26),
+    (b"clock 7\nclock 7\n", -1, 26),
+];
+
+/// With every room: 16 comes last, and nothing is written with a refusal.
+#[test]
+fn no_bytes_answer_as_26_zero_bytes() {
+    for (line, value, length) in ON_FRESH {
+        for room in (0..=80).chain([13_402, 13_404, 65_536]) {
+            let expected = if value == 0 && room < length + 2 { -16 } else { value };
+            let (answered, image) = answer(&[], line, room);
+            assert_eq!(answered, expected, "{:?} in {room}", String::from_utf8_lossy(line));
+            assert_eq!(image.len(), if answered == 0 { length } else { 0 });
+            assert_eq!((answered, image), answer(&[0; 26], line, room));
+        }
+    }
+    let clock = [&[0, 0, 0, 7][..], &[0; 22]].concat();
+    assert_eq!(accepts(&[], b"clock 7\n", 28, 0), clock);
+    assert_eq!(accepts(&[], b"clock 0\n", 28, 0), [0; 26]);
+}
+
+#[test]
+fn random_lines_on_no_bytes_answer_as_on_26_zero_bytes() {
+    let mut random = Random::new(51);
+    let (mut accepted, mut own, mut malformed, mut short) = (0, 0, 0, 0);
+    for _ in 0..4_000 {
+        let line =
+            lines::write(&generate::request(&mut random, &Register::fresh(), &Profile::wild()));
+        let line = &line[..line.len() - usize::from(random.chance(1, 8))];
+        let room = random.below(80) as usize;
+        let given = answer(&[], line, room);
+        assert_eq!(given, answer(&[0; 26], line, room));
+        match given.0 {
+            0.. => accepted += 1,
+            -1 => malformed += 1,
+            -16 => short += 1,
+            _ => own += 1,
+        }
+    }
+    let met = [accepted, own, malformed, short];
+    assert!(met.iter().all(|&count| count > 200), "{met:?}");
+}
+
+/// The image has no bytes until a line is accepted; from then on it is the one
+/// that a chain from 26 zero bytes has.
+#[test]
+fn chains_begin_with_no_bytes() {
+    let mut random = Random::new(52);
+    let (mut at_once, mut later) = (0, 0);
+    for round in 0..200 {
+        let profile = [Profile::small(), Profile::wide(), Profile::wild()][round % 3].clone();
+        let (mut register, mut image) = (Register::fresh(), Vec::new());
+        let mut first = None;
+        for call in 0..40 {
+            let request = generate::request(&mut random, &register, &profile);
+            if compare(&mut register, &mut image, request) >= 0 {
+                first = first.or(Some(call));
+            }
+            assert_eq!(image.is_empty(), first.is_none());
+        }
+        at_once += u32::from(first == Some(0));
+        later += u32::from(first > Some(0));
+    }
+    assert!(at_once > 20 && later > 20, "{at_once}, {later}");
 }

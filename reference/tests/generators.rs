@@ -79,6 +79,25 @@ fn damage_changes_images_and_registers() {
     (0..100).for_each(|_| generate::damage_image(&mut random, &mut nothing));
 }
 
+#[test]
+fn short_images_are_of_every_kind() {
+    let mut random = Random::new(69);
+    let image = [7; 100];
+    let (mut zeros, mut single, mut starts) = ([0; 28], 0, 0);
+    for _ in 0..4_000 {
+        let short = generate::short_image(&mut random, &image);
+        assert!(short.len() <= 27);
+        match short[..] {
+            _ if short.iter().all(|&byte| byte == 0) => zeros[short.len()] += 1,
+            [_] => single += 1,
+            _ => starts += 1,
+        }
+    }
+    assert!(zeros.iter().all(|&count| count >= 30), "{zeros:?}");
+    assert!(zeros[0] >= 800 && single >= 300 && starts >= 300, "{} {single} {starts}", zeros[0]);
+    (0..100).for_each(|_| drop(generate::short_image(&mut random, &[])));
+}
+
 /// Capability 0 of user 0, who holds it with permission 0, has a life from 10 to
 /// 12, and session 1 is open on it; session 2 is open on its role.
 fn with_sessions() -> Register {

@@ -26,13 +26,15 @@ fn assert_round_trip(register: &Register) {
     assert_eq!(exact, image);
 }
 
-/// Whatever loads keeps the rules and has just these bytes as its image.
+/// Whatever loads keeps the rules and has just these bytes as its image; where
+/// there are none, those of a fresh register.
 fn loads(image: &[u8]) -> bool {
     match load(image) {
         Ok(register) => {
             assert!(well_formed(&register));
-            assert_eq!(encode(&register), image);
-            assert!((SHORTEST..=LONGEST).contains(&image.len()));
+            let saved = if image.is_empty() { &[0; SHORTEST] } else { image };
+            assert_eq!(encode(&register), saved);
+            assert!((SHORTEST..=LONGEST).contains(&saved.len()));
             true
         }
         Err(number) => {
@@ -124,7 +126,7 @@ fn a_chain_of_256_capabilities_has_13400_bytes() {
 #[test]
 fn every_other_length_of_an_image_gives_14() {
     for image in [encode(&listed()), encode(&sample())] {
-        for length in 0..image.len() {
+        for length in 1..image.len() {
             assert_eq!(load(&image[..length]), Err(14), "{length}");
         }
         for extra in [&[0][..], &[1], &[0; 26]] {
@@ -170,7 +172,7 @@ fn damaged_images_load_only_if_they_are_images() {
 #[test]
 fn random_bytes_seldom_are_an_image() {
     let mut random = Random::new(23);
-    for length in 0..200 {
+    for length in 1..200 {
         let bytes: Vec<u8> = (0..length).map(|_| random.bits() as u8).collect();
         assert!(!loads(&bytes));
     }

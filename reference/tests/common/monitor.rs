@@ -3,8 +3,9 @@
 //! from the accepted creates, and never read off the register after that.
 
 use reference::generate::Borders;
+use reference::image::SHORTEST;
 use reference::register::has;
-use reference::{apply, apply_trusted, well_formed, Answer, Capability};
+use reference::{apply, apply_trusted, encode, load_into, well_formed, Answer, Capability};
 use reference::{Creation, Named, Origin, Register, Request};
 
 /// The answers to all checks: 64 sessions by 32 permissions.
@@ -46,10 +47,21 @@ impl Monitor {
         monitor
     }
 
-    /// After an accepted load (§7.1.2).
-    pub fn load(&mut self, register: Register) {
-        self.register = register;
-        self.restart();
+    /// A load (§7.1.2): refused, it leaves the register; accepted, it starts anew
+    /// from the image, or from a fresh register's where that has no bytes.
+    pub fn load(&mut self, image: &[u8]) -> Answer {
+        let before = self.register.clone();
+        let answer = load_into(&mut self.register, image);
+        match answer {
+            Ok(value) => {
+                assert_eq!(value, 0);
+                let shown = if image.is_empty() { &[0; SHORTEST] } else { image };
+                assert_eq!(encode(&self.register), shown);
+                self.restart();
+            }
+            Err(_) => assert_eq!(self.register, before, "changed by a refused load"),
+        }
+        answer
     }
 
     /// Takes the derivation from what the register shows (§7.1.3).
