@@ -1,9 +1,12 @@
 //! How often each answer was given.
 
 use std::fmt;
+use std::ops::RangeInclusive;
 
 /// The refusals have the numbers 1 to 16.
 const REFUSALS: usize = 16;
+/// Of them, those that a call itself gives to a line.
+const OWN: RangeInclusive<usize> = 2..=13;
 
 #[derive(Default)]
 pub struct Answers {
@@ -27,6 +30,11 @@ impl Answers {
     /// How often this refusal was given.
     pub fn refused(&self, number: usize) -> u64 {
         self.refused[number]
+    }
+
+    /// How often a call itself refused.
+    pub fn refused_by_call(&self) -> u64 {
+        self.refused[OWN].iter().sum()
     }
 
     pub fn total(&self) -> u64 {

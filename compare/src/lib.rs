@@ -7,3 +7,4 @@ pub mod borders;
 pub mod registers;
 pub mod requests;
 pub mod tally;
+pub mod without_bytes;

@@ -1,6 +1,7 @@
 //! Lines of every kind on varied registers, with areas of every interesting
-//! length, and some on damaged images: often several refusals apply, and the
-//! answer shows their order. A batch of 1,000 lines counts once.
+//! length, and some on damaged images and on an image without bytes: often
+//! several refusals apply, and the answer shows their order. A batch of 1,000
+//! lines, with those on no bytes, counts once.
 
 use crate::library::{Areas, LARGEST, ROOMY};
 use crate::malformed::malformed;
@@ -9,10 +10,12 @@ use compare::borders::{self, Least};
 use compare::registers::varied;
 use compare::requests::{count_borders, follow, line, PROFILES};
 use compare::tally::Tally;
+use compare::without_bytes;
 use reference::generate::{damage_image, Borders, Profile};
 use reference::image::LONGEST;
 use reference::random::Random;
 use reference::{encode, Register};
+use std::cmp::Ordering;
 use std::process::ExitCode;
 
 const BATCHES: u64 = 100;
@@ -20,6 +23,8 @@ const BATCHES: u64 = 100;
 const REGISTERS: usize = 20;
 /// Lines for a register.
 const LINES: usize = 50;
+/// Lines of a batch on an image without bytes.
+const ON_NO_BYTES: usize = 24;
 
 /// How often the lines must meet the borders of lives.
 const LEAST: Least = [
@@ -31,11 +36,28 @@ const LEAST: Least = [
     [18, 15, 11], // a role at the end
 ];
 
+/// How often the answers on no bytes must be given, each of [`ROOMS`] be met,
+/// and each place of the image.
+const LEAST_WITHOUT_BYTES: without_bytes::Least = without_bytes::Least {
+    accepted: 250,
+    refused_by_call: 400,
+    malformed: 380,
+    area_too_short: 150,
+};
+const LEAST_ROOMS: [u64; 4] = [25, 120, 50, 200];
+const LEAST_PLACES: u64 = 1_000;
+
+/// The lengths of an area for a new image, by what they have room for.
+const ROOMS: [&str; 4] = ["for nothing", "for less", "for just the image", "for more"];
+
 /// What occurred in the batches.
 #[derive(Default)]
 struct Seen {
     answers: Answers,
     borders: Borders,
+    without_bytes: Answers,
+    /// On no bytes, the areas of lines that only want of room refuses.
+    rooms: [u64; ROOMS.len()],
 }
 
 pub fn run() -> ExitCode {
@@ -43,15 +65,28 @@ pub fn run() -> ExitCode {
     let mut seen = Seen::default();
     let mut tally = Tally::default();
     tally.play(BATCHES, |seed| play(seed, &mut areas, &mut seen));
-    let Seen { answers, borders } = seen;
+    let Seen { answers, borders, without_bytes, rooms } = seen;
     println!("{} lines: {answers}", answers.total());
     tally.require(answers.accepted() > 0, "an accepted line");
-    tally.require((2..=13).any(|number| answers.refused(number) > 0), "a call's own refusal");
+    tally.require(answers.refused_by_call() > 0, "a call's own refusal");
     for number in [14, 1, 16] {
         tally.require(answers.refused(number) > 0, &format!("the refusal {number}"));
     }
+    without_bytes::require(&mut tally, &without_bytes, &LEAST_WITHOUT_BYTES);
+    require_rooms(&mut tally, &rooms);
+    areas.require_places(&mut tally, LEAST_PLACES);
     borders::require(&mut tally, &borders, &LEAST);
     tally.finish()
+}
+
+/// Prints how often the areas on no bytes had each room, and makes a failure of
+/// each that was met less often than it must.
+fn require_rooms(tally: &mut Tally, rooms: &[u64; ROOMS.len()]) {
+    for (place, room) in ROOMS.iter().enumerate() {
+        println!("  room {room}: {}", rooms[place]);
+        let what = format!("a line on no bytes with room {room}");
+        tally.require_often(rooms[place], LEAST_ROOMS[place], &what);
+    }
 }
 
 fn play(seed: u64, areas: &mut Areas, seen: &mut Seen) -> Result<(), String> {
@@ -75,7 +110,34 @@ fn play(seed: u64, areas: &mut Areas, seen: &mut Seen) -> Result<(), String> {
             }
         }
     }
+    play_on_no_bytes(&mut random, areas, seen)
+}
+
+/// Lines on an image without bytes, most of which fit a fresh register.
+fn play_on_no_bytes(random: &mut Random, areas: &mut Areas, seen: &mut Seen) -> Result<(), String> {
+    let fresh = Register::fresh();
+    for _ in 0..ON_NO_BYTES {
+        let profile = random.pick(&PROFILES)();
+        let line = any_line(random, &fresh, &profile);
+        let after = length_after(&fresh, &line);
+        let length = area_length(random, after);
+        let answer = areas.ask(&[], &line, length)?;
+        seen.without_bytes.add(answer);
+        if answer >= 0 || answer == -16 {
+            seen.rooms[room(length, after + 2)] += 1;
+        }
+    }
     Ok(())
+}
+
+/// The place in [`ROOMS`] of an area of this length, where so much is needed.
+fn room(length: usize, needed: usize) -> usize {
+    match length.cmp(&needed) {
+        _ if length == 0 => 0,
+        Ordering::Less => 1,
+        Ordering::Equal => 2,
+        Ordering::Greater => 3,
+    }
 }
 
 /// A line that fits, one with any numbers, or a malformed one.

@@ -1,8 +1,10 @@
 //! The entry point of the static library, asked beside the independent one.
 
+use compare::tally::Tally;
 use reference::entry;
 use reference::random::Random;
 use std::fmt::Write;
+use std::ptr::null;
 
 /// An area of this length has room for every image, and for more.
 pub const ROOMY: usize = 13_500;
@@ -25,11 +27,12 @@ extern "C" {
     ) -> i64;
 }
 
-fn apply(image: &[u8], line: &[u8], area: &mut [u8]) -> i64 {
+/// The answer on the image of this length at `from`.
+fn apply(from: *const u8, length: usize, line: &[u8], area: &mut [u8]) -> i64 {
     let (to, room) = (area.as_mut_ptr(), area.len());
-    // Each pointer goes with the length of what it points to, and nobody else
-    // has the area.
-    unsafe { fellunqa_apply(image.as_ptr(), image.len(), line.as_ptr(), line.len(), to, room) }
+    // Each pointer goes with the length of what it points to, a null pointer
+    // with the length 0, and nobody else has the area.
+    unsafe { fellunqa_apply(from, length, line.as_ptr(), line.len(), to, room) }
 }
 
 /// The areas of both entry points, with their margins.
@@ -38,6 +41,10 @@ pub struct Areas {
     shift: usize,
     proved: Vec<u8>,
     expected: Vec<u8>,
+    /// Images without bytes that were at a null pointer.
+    at_null: u64,
+    /// Images without bytes that were in front of other bytes.
+    at_bytes: u64,
 }
 
 impl Areas {
@@ -45,7 +52,8 @@ impl Areas {
         let mut random = Random::new(0);
         let length = SHIFTS + LARGEST + 2 * MARGIN;
         let filling = (0..length).map(|_| random.bits() as u8).collect();
-        Areas { filling, shift: 0, proved: Vec::new(), expected: Vec::new() }
+        let (proved, expected) = (Vec::new(), Vec::new());
+        Areas { filling, shift: 0, proved, expected, at_null: 0, at_bytes: 0 }
     }
 
     /// The answer of both to a call with an area of this length; or, if the
@@ -53,17 +61,42 @@ impl Areas {
     pub fn ask(&mut self, image: &[u8], line: &[u8], length: usize) -> Result<i64, String> {
         self.fill(length + 2 * MARGIN);
         let area = MARGIN..MARGIN + length;
-        let answer = apply(image, line, &mut self.proved[area.clone()]);
+        let from = self.place(image);
+        let answer = apply(from, image.len(), line, &mut self.proved[area.clone()]);
         let expected = entry::apply(image, line, &mut self.expected[area]);
         if answer == expected && self.proved == self.expected {
             return Ok(answer);
         }
         let areas = self.difference();
         let (line, image) = (line.escape_ascii(), hex(image));
+        let at = if from.is_null() { " at a null pointer" } else { "" };
         Err(format!(
             "answer {answer}, expected {expected}; {areas}; \
-             area of {length} bytes, line \"{line}\", image {image}"
+             area of {length} bytes, line \"{line}\", image \"{image}\"{at}"
         ))
+    }
+
+    /// Where the proved entry point finds the image. One without bytes is at a
+    /// null pointer and in front of other bytes in turn.
+    fn place(&mut self, image: &[u8]) -> *const u8 {
+        if !image.is_empty() {
+            return image.as_ptr();
+        }
+        if self.at_null > self.at_bytes {
+            self.at_bytes += 1;
+            return self.filling.as_ptr();
+        }
+        self.at_null += 1;
+        null()
+    }
+
+    /// Prints where the images without bytes were, and makes a failure of each
+    /// of the two places that had fewer than it must.
+    pub fn require_places(&self, tally: &mut Tally, least: u64) {
+        let Areas { at_null, at_bytes, .. } = *self;
+        println!("images without bytes: {at_null} at a null pointer, {at_bytes} at other bytes");
+        tally.require_often(at_null, least, "an image without bytes at a null pointer");
+        tally.require_often(at_bytes, least, "an image without bytes in front of others");
     }
 
     /// Fills both areas alike, and otherwise than before.

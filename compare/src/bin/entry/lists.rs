@@ -1,11 +1,13 @@
 //! Lists of calls: each call gets the image that the call before it left, and
-//! a refused call leaves the one that it got. One list counts once.
+//! a refused call leaves the one that it got. Some lists begin with an image
+//! without bytes, and some load one on the way. One list counts once.
 
 use crate::library::{Areas, ROOMY};
 use compare::answers::Answers;
 use compare::borders::{self, Least};
 use compare::requests::{count_borders, follow, line, PROFILES};
 use compare::tally::Tally;
+use compare::without_bytes;
 use reference::generate::Borders;
 use reference::random::Random;
 use reference::register::CAPABILITIES;
@@ -15,6 +17,17 @@ use std::process::ExitCode;
 /// Four lists for each profile and length, which makes 140,000 calls.
 const LISTS: u64 = 80;
 const LENGTHS: [usize; 4] = [200, 800, 2_000, 4_000];
+/// After them, four short lists for each profile with loads of no bytes.
+const LOADING: u64 = 20;
+/// One of so many calls follows such a load.
+const LOADS: u64 = 20;
+
+/// How often those loads must occur, and where the image of no bytes must be.
+const LEAST_LOADS: u64 = 100;
+const LEAST_PLACES: u64 = 130;
+/// How often calls must have an image without bytes. Here every area is roomy.
+const LEAST_WITHOUT_BYTES: without_bytes::Least =
+    without_bytes::Least { accepted: 110, refused_by_call: 130, malformed: 25, area_too_short: 0 };
 
 /// How often the lists must meet the borders of lives. Seldom a session is open
 /// on a life without a tick.
@@ -31,6 +44,10 @@ const LEAST: Least = [
 #[derive(Default)]
 struct Seen {
     answers: Answers,
+    /// Of them, those to calls whose image had no bytes.
+    without_bytes: Answers,
+    /// Loads of no bytes on the way.
+    loads: u64,
     borders: Borders,
     /// Calls that added the last pass that there can be.
     capabilities_filled: u64,
@@ -42,9 +59,10 @@ pub fn run() -> ExitCode {
     let mut areas = Areas::new();
     let mut seen = Seen::default();
     let mut tally = Tally::default();
-    tally.play(LISTS, |seed| play(seed, &mut areas, &mut seen));
-    let Seen { answers, borders, capabilities_filled, sessions_filled } = seen;
-    println!("{} calls: {answers}", answers.total());
+    tally.play(LISTS + LOADING, |seed| play(seed, &mut areas, &mut seen));
+    let Seen { answers, without_bytes, loads, borders, capabilities_filled, sessions_filled } =
+        seen;
+    println!("{} calls, with {loads} loads of no bytes: {answers}", answers.total());
     println!(
         "filled: with 256 passes {capabilities_filled} times, with 64 sessions {sessions_filled}"
     );
@@ -54,6 +72,9 @@ pub fn run() -> ExitCode {
     }
     tally.require(capabilities_filled > 0, "a register filled with passes");
     tally.require(sessions_filled > 0, "a register filled with sessions");
+    tally.require_often(loads, LEAST_LOADS, "a load of no bytes in a list");
+    without_bytes::require(&mut tally, &without_bytes, &LEAST_WITHOUT_BYTES);
+    areas.require_places(&mut tally, LEAST_PLACES);
     borders::require(&mut tally, &borders, &LEAST);
     tally.finish()
 }
@@ -61,14 +82,20 @@ pub fn run() -> ExitCode {
 fn play(seed: u64, areas: &mut Areas, seen: &mut Seen) -> Result<(), String> {
     let mut random = Random::new(seed);
     let profile = PROFILES[seed as usize % PROFILES.len()]();
-    let length = LENGTHS[seed as usize / PROFILES.len() % LENGTHS.len()];
+    let length = match seed < LISTS {
+        true => LENGTHS[seed as usize / PROFILES.len() % LENGTHS.len()],
+        false => LENGTHS[0],
+    };
     let mut register = start(&mut random);
-    let mut image = encode(&register);
+    let mut image = first_image(seed, &register);
     for _ in 0..length {
+        if seed >= LISTS && random.chance(1, LOADS) {
+            (register, image) = (Register::fresh(), Vec::new());
+            seen.loads += 1;
+        }
         let line = line(&mut random, &register, &profile);
         let answer = areas.ask(&image, &line, ROOMY)?;
-        seen.answers.add(answer);
-        count_borders(&mut seen.borders, &register, &line);
+        seen.count(&register, &image, &line, answer);
         if answer >= 0 {
             image = areas.image().to_vec();
             let before = full(&register);
@@ -79,6 +106,25 @@ fn play(seed: u64, areas: &mut Areas, seen: &mut Seen) -> Result<(), String> {
         }
     }
     Ok(())
+}
+
+impl Seen {
+    /// Counts the answer to a line on the register of this image.
+    fn count(&mut self, register: &Register, image: &[u8], line: &[u8], answer: i64) {
+        self.answers.add(answer);
+        if image.is_empty() {
+            self.without_bytes.add(answer);
+        }
+        count_borders(&mut self.borders, register, line);
+    }
+}
+
+/// The image of the start; every second list that starts fresh has no bytes.
+fn first_image(seed: u64, register: &Register) -> Vec<u8> {
+    match *register == Register::fresh() && seed.is_multiple_of(2) {
+        true => Vec::new(),
+        false => encode(register),
+    }
 }
 
 /// Mostly a fresh register, otherwise any that keeps the rules.
