@@ -62,6 +62,13 @@ empty() {
   client --new "$reg" < /dev/null | cmp - /dev/null && head -c 26 /dev/zero | cmp - "$reg" && [ "$(stat -c %a "$reg")" = 600 ]
 }
 
+# a new client of which every line is refused is saved too, and goes on from there
+all_refused() {
+  start
+  client --new "$reg" 'check 0 0' 'enrol 3' | numbers | cmp - <(printf 'no 3\nno 1\n') &&
+    head -c 26 /dev/zero | cmp - "$reg" && client "$reg" 'enrol 3 0' | cmp - <(echo ok 0)
+}
+
 # three runs on one file give the answers and the register of one run
 carried() {
   start
@@ -169,6 +176,7 @@ client_checks() { # ROUND
   check "$1: the stored cases" answers crates/cases/stdin crates/cases/stdout
   check "$1: the example of a deputy" deputy
   check "$1: no lines, a fresh register" empty
+  check "$1: a fresh register, of which every line is refused" all_refused
   check "$1: a register carried over three runs" carried
   check "$1: lines as arguments" arguments
   check "$1: odd lines" odd_lines
@@ -234,7 +242,7 @@ example() {
 cplusplus() { # STANDARD
   cat > "$work/header.cpp" << 'END'
 #include <fellunqa.h>
-int main() { return fellunqa_apply(NULL, 0, NULL, 0, NULL, 0) == -FELLUNQA_IMAGE ? 0 : 1; }
+int main() { return fellunqa_apply(NULL, 0, NULL, 0, NULL, 0) == -FELLUNQA_MALFORMED ? 0 : 1; }
 END
   "$cxx" -std="$1" "${flags[@]}" -Iinclude -o "$work/header" "$work/header.cpp" "$LIB" "${libs[@]}" && "$work/header"
 }

@@ -41,7 +41,8 @@ static struct block copy(const void *bytes, size_t length)
 static struct block zeros(size_t length)
 {
     struct block block = new_block(length);
-    memset(block.at, 0, length);
+    if (length != 0)
+        memset(block.at, 0, length);
     return block;
 }
 

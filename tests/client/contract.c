@@ -41,6 +41,31 @@ static void check_fresh(struct tally *tally)
     free(longer.at);
 }
 
+/* A new client: no bytes do what 26 zero bytes do, whether the pointer is NULL or not. */
+static void check_new_client(struct tally *tally)
+{
+    struct block none = zeros(0), fresh = zeros(FELLUNQA_IMAGE_MIN), enrolled = copy(fresh.at, fresh.length);
+    play(&enrolled, "enrol 9 0\n");
+    check(tally, accepts(none, "clock 0\n", FELLUNQA_IMAGE_MIN + 2, 0, fresh), "no image is a new client");
+    check(tally, accepts(none, "enrol 9 0\n", enrolled.length + 2, 0, enrolled), "no image, a line that changes it");
+    check(tally, accepts((struct block){fresh.at, 0}, "enrol 9 0\n", FELLUNQA_AREA_MAX, 0, enrolled),
+          "an image of length 0 somewhere");
+    check(tally, refuses_text(none, "clock 0\n", FELLUNQA_IMAGE_MIN + 1, 16), "a new client has 26 bytes");
+    check(tally, refuses_text(none, "clock 0\n", 0, 16), "a new client has no room in no area");
+    check(tally, refuses_text(none, "check 0 0\n", 0, 3), "a new client has no session");
+    check(tally, refuses_text(none, "enrol 9", 0, 1), "a new client and no line");
+    int holds = 1;
+    for (size_t length = 1; length <= 64; length++) {
+        struct block some = zeros(length);
+        if (length != FELLUNQA_IMAGE_MIN)
+            holds &= refuses_text(some, "clock 0\n", FELLUNQA_AREA_MAX, 14);
+        free(some.at);
+    }
+    check(tally, holds, "1 to 64 zero bytes, but for 26 of them, get 14");
+    free(fresh.at);
+    free(enrolled.at);
+}
+
 static void check_refusals(struct tally *tally, struct block small, struct block large)
 {
     static const struct {
@@ -89,11 +114,11 @@ static void check_null(struct tally *tally, struct block small)
 {
     const uint8_t *line = (const uint8_t *)"enrol 9 0\n";
     struct block area = new_block(FELLUNQA_AREA_MAX);
-    check(tally, fellunqa_apply(NULL, 0, line, 10, area.at, area.length) == -14, "no image gets 14");
+    check(tally, fellunqa_apply(NULL, 0, line, 10, NULL, 0) == -16, "no image and no area get 16");
     check(tally, fellunqa_apply(small.at, small.length, NULL, 0, area.at, area.length) == -1, "no line gets 1");
     check(tally, fellunqa_apply(small.at, small.length, line, 10, NULL, 0) == -16, "no area gets 16");
     check(tally, fellunqa_apply(small.at, small.length, NULL, 0, NULL, 0) == -1, "no line and no area get 1");
-    check(tally, fellunqa_apply(NULL, 0, NULL, 0, NULL, 0) == -14, "nothing at all gets 14");
+    check(tally, fellunqa_apply(NULL, 0, NULL, 0, NULL, 0) == -1, "nothing at all gets 1");
     check(tally, untouched(area, 0), "refusals of missing parts touch nothing");
     free(area.at);
 }
@@ -101,12 +126,12 @@ static void check_null(struct tally *tally, struct block small)
 static void check_images(struct tally *tally, struct block small)
 {
     int holds = 1;
-    for (size_t length = 0; length < small.length; length++) {
+    for (size_t length = 1; length < small.length; length++) {
         struct block cut = copy(small.at, length);
         holds &= refuses_text(cut, "enrol 9 0\n", FELLUNQA_AREA_MAX, 14);
         free(cut.at);
     }
-    check(tally, holds, "an image cut off anywhere gets 14");
+    check(tally, holds, "an image cut off anywhere, but not to nothing, gets 14");
     struct block longer = new_block(FELLUNQA_IMAGE_MAX + 1);
     memset(longer.at, 0, longer.length);
     memcpy(longer.at, small.at, small.length);
@@ -267,6 +292,7 @@ int main(void)
     struct tally tally = {0, 0};
     struct block small = small_register(), large = large_register();
     check_fresh(&tally);
+    check_new_client(&tally);
     check_refusals(&tally, small, large);
     check_order(&tally, small);
     check_null(&tally, small);
