@@ -86,11 +86,12 @@ static enum status load(struct store *store, const char *path)
     return status;
 }
 
-/* Reads only what the library accepts; any answer but 1 to an empty line is a no. */
+/* Reads only what the library accepts; any answer but 1 to an empty line is a no. No bytes are what a new client hands
+ * in and nobody saves, so a file without any has lost its register. */
 static enum status decode(const struct store *store, struct image *image)
 {
     struct image_fault fault;
-    if (fellunqa_apply(store->bytes, store->length, NULL, 0, NULL, 0) != -FELLUNQA_MALFORMED)
+    if (store->length == 0 || fellunqa_apply(store->bytes, store->length, NULL, 0, NULL, 0) != -FELLUNQA_MALFORMED)
         return complain(store->name, "this is not a register, or it is damaged", DAMAGED);
     if (image_read(image, store->bytes, store->length, &fault))
         return DONE;

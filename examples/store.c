@@ -114,7 +114,7 @@ static enum store_status find(struct store *store, const char *path)
     return status;
 }
 
-/* The image is all zero already. */
+/* A new client is an image of length 0, which the store has already. */
 static enum store_status start(struct store *store)
 {
     struct stat there;
@@ -122,7 +122,6 @@ static enum store_status start(struct store *store)
         return refused(store, "there is something of this name already");
     if (errno != ENOENT)
         return failed(store, "it cannot be made");
-    store->length = FELLUNQA_IMAGE_MIN;
     store->changed = true;
     return STORE_DONE;
 }
@@ -142,6 +141,10 @@ static enum store_status read_image(struct store *store, int file)
     if (length < 0)
         return failed(store, "it cannot be read");
     store->length = (size_t)length;
+    if (length == 0) {
+        refused(store, "it has no bytes, so it is damaged: a register that was saved has some");
+        return STORE_DAMAGED;
+    }
     if (fellunqa_apply(store->image, store->length, NULL, 0, NULL, 0) != -FELLUNQA_IMAGE)
         return STORE_DONE;
     refused(store, "this is not a register, or it is damaged");
@@ -250,6 +253,14 @@ static int put_in_place(const struct store *store)
     return 0;
 }
 
+/* Gives a new client, of which no line was accepted, the image that it is saved as: the clock may be set to its own tick. */
+static void give_bytes(struct store *store)
+{
+    static const uint8_t same_tick[] = "clock 0\n";
+    if (store->length == 0)
+        store_play(store, same_tick, sizeof same_tick - 1);
+}
+
 static enum store_status replace(struct store *store)
 {
     struct stat former = {0};
@@ -271,6 +282,7 @@ static enum store_status replace(struct store *store)
 enum store_status store_save(struct store *store)
 {
     if (store->changed) {
+        give_bytes(store);
         enum store_status status = replace(store);
         if (status != STORE_DONE)
             return status;

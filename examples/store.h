@@ -25,6 +25,8 @@
  *   - Nothing to clear away: a killed process leaves at most NAME.unsaved, which is never read or followed and which
  *     the next save removes, or is refused where it may not. So NAME.unsaved is the store's; a register may not be
  *     called so.
+ *   - Never without bytes: the library takes an image of length 0 for a new client, but a save writes 26 bytes or more.
+ *     So a file of length 0 has lost its register, and is refused as damaged; a new client has no file yet.
  *   - Mode, group and, where the system permits it, owner stay those of the register. If the group cannot stay, if the
  *     register has an access list, which would be lost, or if it or its folder may not be written, the save is refused.
  *     Lines that change nothing write nothing, and so need no more than leave to read.
@@ -54,7 +56,7 @@ struct store {
     bool fresh;   /* there is no register file yet */
     bool changed; /* a line was accepted that changed the image since it was read or saved */
     bool unsure;  /* the folder could not be synced after a save; no later sync makes up for that */
-    size_t length;
+    size_t length; /* 0: a new client, of which no line was accepted yet */
     uint8_t image[FELLUNQA_IMAGE_MAX + 1]; /* one byte more than any image, so that a longer file is seen */
     const char *fault;                     /* what went wrong, if anything did */
     int error;                             /* and why, as in errno; 0 if the fault says it all */

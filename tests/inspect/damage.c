@@ -4,7 +4,7 @@
  *     damage IMAGE STATUS FOLDER
  *
  * The image is cut at every length and has each of its bits flipped, one at a time. A cut one must be refused: with this
- * status, one line on standard error and nothing on standard output. So must one with a flipped bit, or else be printed,
+ * status (3 if it has no bytes), one line on standard error and nothing on standard output. So must one with a flipped bit, or else be printed,
  * with status 0 and nothing on standard error; then FOLDER keeps the image and what was printed. Any other end, as by a
  * sanitizer, is a failure. Says how many of each there were; the exit status is 1 if one failed.
  *
@@ -108,12 +108,15 @@ static void report(struct trial *trial, const char *what, size_t at, int status)
     trial->failed++;
 }
 
+/* No bytes are refused before the library is asked about them. */
 static void try_cut(struct trial *trial, const uint8_t *bytes, size_t length)
 {
-    int status = run(trial, bytes, length, "--");
+    int refusal = trial->refusal, status = run(trial, bytes, length, "--");
     trial->cut++;
+    trial->refusal = length == 0 ? 3 : refusal;
     if (!is_refused(trial, status))
         report(trial, "cut to length", length, status);
+    trial->refusal = refusal;
 }
 
 static void try_flipped(struct trial *trial, uint8_t *bytes, size_t length, size_t bit)
