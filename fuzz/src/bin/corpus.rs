@@ -38,6 +38,14 @@ const AREAS: [(u8, u8); 8] = [
     (ANY, 255),
 ];
 
+/// Modes, values and lines for an image without bytes.
+const WITHOUT_BYTES: [(u8, u8, &str); 4] = [
+    (EXACT, JUST, "enrol 3 0\n"),
+    (EXACT | NULL, JUST, "enrol 3 0\n"),
+    (EXACT | NULL, JUST - 1, "clock 7\n"),
+    (EXACT | NULL, JUST, "check 0 0\n"),
+];
+
 fn main() -> io::Result<()> {
     let folder = env::args().nth(1).expect("usage: corpus FOLDER");
     let folder = Path::new(&folder);
@@ -69,6 +77,10 @@ fn inputs(random: &mut Random) -> Vec<(String, Input)> {
     for (number, (mode, value)) in AREAS.into_iter().enumerate() {
         let roomy = input(&fresh, b"enrol 3 0\n");
         inputs.push((format!("area-{number}"), Input { mode, value, ..roomy }));
+    }
+    for (number, (mode, value, line)) in WITHOUT_BYTES.into_iter().enumerate() {
+        let line = line.as_bytes().to_vec();
+        inputs.push((format!("without-bytes-{number}"), Input { mode, value, image: Vec::new(), line }));
     }
     inputs
 }
