@@ -31,6 +31,7 @@ pub fn calls() -> Vec<Case> {
     let mut cases = vec![
         Case::new("fresh: check (refused, 3)", Register::fresh(), "check 0 4"),
         Case::new("fresh: enrol", Register::fresh(), "enrol 3 0"),
+        Case { image: Vec::new(), ..Case::new("no bytes: enrol", Register::fresh(), "enrol 3 0") },
     ];
     cases.extend(calls_on("typical", TYPICAL));
     cases.extend(calls_on("half", HALF));
