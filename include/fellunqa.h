@@ -5,11 +5,10 @@
  * reads the image and the line, and writes the image of the register after the line. docs/SPECIFICATION.md says what
  * the lines are and what they do; numbers with § below are its paragraphs.
  *
- * To start a fresh register, use FELLUNQA_IMAGE_MIN zero bytes as its image:
+ * A new client has an image of length 0, which is a fresh register; its first accepted line gives it one with bytes:
  *
- *     uint8_t image[FELLUNQA_IMAGE_MAX] = {0};
- *     size_t length = FELLUNQA_IMAGE_MIN;
- *     uint8_t area[FELLUNQA_AREA_MAX];
+ *     static uint8_t image[FELLUNQA_IMAGE_MAX], area[FELLUNQA_AREA_MAX];
+ *     size_t length = 0;
  *     static const char line[] = "enrol 3 0\n";
  *
  *     int64_t answer = fellunqa_apply(image, length, (const uint8_t *)line, sizeof line - 1, area, sizeof area);
@@ -34,16 +33,16 @@
  * image does not say its version: keep this text beside it, and see CHANGELOG.md before a library of another second
  * number reads it.
  */
-#define FELLUNQA_VERSION "0.2.0"
+#define FELLUNQA_VERSION "0.3.0"
 #define FELLUNQA_VERSION_MAJOR 0
-#define FELLUNQA_VERSION_MINOR 2
+#define FELLUNQA_VERSION_MINOR 3
 #define FELLUNQA_VERSION_PATCH 0
 
 #ifdef __cplusplus
 extern "C" {
 #endif
 
-/* The least and the largest number of bytes of an image. */
+/* The least and the largest number of bytes of an image that is written; one of length 0 is only ever handed in. */
 #define FELLUNQA_IMAGE_MIN 26
 #define FELLUNQA_IMAGE_MAX 13402
 
@@ -89,7 +88,7 @@ enum fellunqa_refusal {
     FELLUNQA_FULL = 12,
     /* clock: the tick is before the clock */
     FELLUNQA_PAST = 13,
-    /* the image is not that of a register that keeps the rules (§8.5) */
+    /* the image has bytes and is not that of a register that keeps the rules (§8.5) */
     FELLUNQA_IMAGE = 14,
     /* the register breaks a rule (§4); never answered here, where such an image gets 14 */
     FELLUNQA_BROKEN = 15,
@@ -108,7 +107,8 @@ enum fellunqa_refusal {
  * image; its further bytes are untouched. On refusal no byte of it is touched. Image and line are only read.
  *
  *   image, line   need no alignment and no terminating zero; any bytes may be handed in. The line is one line with
- *                 its line feed as the last byte and no other line feed in it.
+ *                 its line feed as the last byte and no other line feed in it. An image of length 0 is a new client's
+ *                 and is never refused: a caller that may have lost an image has to see to that itself (§8.5.3).
  *   area          needs no initial contents; it must not overlap image or line.
  *
  * A pointer may be NULL if its length is 0. The function allocates no memory, keeps no state, and may run in several

@@ -52,10 +52,11 @@ hold() { # PROGRAM PAIRS SOURCE
   exec 3<&-
 }
 
-# a row for each ```entry block: image, line, area before, area after, value returned; without the spaces between bytes
+# a row for each ```entry block: image, line, area before, area after, value returned; without the spaces between bytes, and
+# with commas, as an image may have no bytes
 entries() {
   blocks docs/LIBRARY.md '```entry' '```' |
-    awk '{ key = $1; $1 = ""; gsub(/ /, ""); row = row $0 (key == "->" ? "\n" : "\t") } END { printf "%s", row }'
+    awk '{ key = $1; $1 = ""; gsub(/ /, ""); row = row $0 (key == "->" ? "\n" : ",") } END { printf "%s", row }'
 }
 
 # a program over the independent implementation: from image, line and area to the area after and the value returned
@@ -96,7 +97,7 @@ build_entry || exit 1
 entries > "$work/entries"
 [ -s "$work/entries" ]
 count $? 'docs/LIBRARY.md has no example of the entry point'
-while IFS=$'\t' read -r image line before after value; do
+while IFS=, read -r image line before after value; do
   got=$("$work/entry" "$image" "$line" "$before")
   [ "$got" = "$after $value" ]
   count $? "docs/LIBRARY.md: entry shows $after $value, but it is $got"
