@@ -253,7 +253,7 @@ static int put_in_place(const struct store *store)
     return 0;
 }
 
-/* Gives a new client, of which no line was accepted, the image that it is saved as: the clock may be set to its own tick. */
+/* Gives a new client without an accepted line the image that it is saved as: the clock may be set to its own tick. */
 static void give_bytes(struct store *store)
 {
     static const uint8_t same_tick[] = "clock 0\n";
