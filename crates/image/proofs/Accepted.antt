@@ -49,7 +49,7 @@ image-loads s r h =
 
 -- ---- the empty image
 
-some-bytes : (r : Register) → encode r ≢ []
+pub some-bytes : (r : Register) → encode r ≢ []
 some-bytes r e = omega (arith, image-length r, ap length e)
 
 accepted-either : (s : List ℕ) → T (loads s) → (s ≡ []) ⊎ ((r : Register) × ImageOf s r)
@@ -142,7 +142,7 @@ image-laws =
       loaded = λ s r h i. ap decode (sym (i .1)) ∙ back r (i .0);
       saved-again = λ s h. ((λ e n. some-bytes (decode s) (e ∙ n)), some-saved s h);
       one-unsaved = λ s. ((λ p. unsaved-empty s (p .0) (p .1)), (λ e. (either-accepted s (inl e), λ again. some-bytes (decode s) (again ∙ e))));
-      zeros = λ n. (zeros-accepted n, accepted-zeros n);
+      zero-bytes = λ n. (zeros-accepted n, accepted-zeros n);
       loaded-fresh = λ s. ((λ p. fresh-either s (p .0) (p .1)), either-fresh s);
       least = image-length;
       short-area = no-room;

@@ -31,7 +31,7 @@ pub record ImageLaws : Type 0 where
   -- so exactly one accepted image is not what its register saves
   pub one-unsaved : (s : List ℕ) → (T (loads s) × (encode (decode s) ≢ s)) ↔ (s ≡ [])
   -- bytes 0 alone are accepted if there are none, or 26
-  pub zeros : (n : ℕ) → T (loads (replicate n 0)) ↔ ((n ≡ 0) ⊎ (n ≡ 26))
+  pub zero-bytes : (n : ℕ) → T (loads (replicate n 0)) ↔ ((n ≡ 0) ⊎ (n ≡ 26))
   -- these two, and no others, load as the fresh register
   pub loaded-fresh : (s : List ℕ) → (T (loads s) × (decode s ≡ fresh)) ↔ ((s ≡ []) ⊎ (s ≡ replicate 26 0))
   -- a saved image has at least 26 bytes (§8.3.1), so 1 to 25 bytes are never accepted

@@ -24,13 +24,10 @@ use Rattle.model.proofs.EachAnswer.{each-answer}
 use Rattle.model.proofs.ListTheorem.{list-theorem}
 use Rattle.model.proofs.Runs.{entry-returns}
 use Rattle.image.specs.Laws.{ImageOf}
-use Rattle.image.proofs.Accepted.{image-laws}
+use Rattle.image.proofs.Accepted.{some-bytes, image-laws}
 use Rattle.fields.proofs.Numbers.{length-bytes, number-back}
 
 -- ---- one call
-
-some-bytes : (r : Register) → encode r ≢ []
-some-bytes r e = omega (arith, image-laws .least r, ap length e)
 
 -- a refused call leaves the register as it was
 call-stays : (r : Register) (c : Call) {n : ℕ} → asked r c ≡ refused n → next r c ≡ r
