@@ -47,6 +47,14 @@ reaches-one {derived = derived} {k = k} (one-step {f = f} {m = m} a q) (one-step
 pub ends-each : (r : Register) (derived : ℕ → Origin) (user p n : ℕ) → Entitled r derived user p n → (k : ℕ) → Reaches derived (suc n) n k → RoleSound r p k
 ends-each r derived user p n h k q = subst (RoleSound r p) (reaches-one (h .ends .1) q) (h .ends .2)
 
+-- a session that is open has its place
+pub opened-lt : (r : Register) → Kept r → (s : ℕ) → T (opened r s) → s < 64
+opened-lt r k s h = cases (decLt s 64)
+  where
+    cases : Dec (s < 64) → s < 64
+    cases (yes g) = g
+    cases (no g) = absurd (subst (λ (x : Session). T (x .active)) (List·getD-eq-default (r .sessions) blankSession (omega (arith, k .sessions .amount))) h)
+
 module _ (r : Register) (derived : ℕ → Origin) (k : Kept r) (shows : Shows r derived) where
   pub shown : {n m : ℕ} → n < r .count → Descends derived n m → Descends (originAt (r .capabilities)) n m
   shown = descends-shown (r .enrolled) (r .roles) (r .count) (r .capabilities) (k .capabilities) derived shows
@@ -76,19 +84,12 @@ module _ (r : Register) (derived : ℕ → Origin) (k : Kept r) (shows : Shows r
 
   -- ---- sessions
 
-  opened-lt : (s : ℕ) → T (opened r s) → s < 64
-  opened-lt s h = cases (decLt s 64)
-    where
-      cases : Dec (s < 64) → s < 64
-      cases (yes g) = g
-      cases (no g) = absurd (subst (λ (x : Session). T (x .active)) (List·getD-eq-default (r .sessions) blankSession (omega (arith, k .sessions .amount))) h)
-
   -- what a session is on is there
   pub session-on : (s : ℕ) → T (opened r s) → T (exists (r .roles) (r .count) ((sessionAt (r .sessions) s) .on))
   unfolding sessionKeeps
   session-on s t =
       each→ (sessionTests (r .enrolled) (r .roles) (r .count) (r .capabilities) (sessionAt (r .sessions) s))
-      (cond-yes (opened r s) _ (sessionBlank (sessionAt (r .sessions) s)) (k .sessions .session s (opened-lt s t)) t) .1 .1 .1 .1 .0
+      (cond-yes (opened r s) _ (sessionBlank (sessionAt (r .sessions) s)) (k .sessions .session s (opened-lt r k s t)) t) .1 .1 .1 .1 .0
 
   -- ---- yes on a capability, by the capability alone, and along its lineage
 
@@ -154,6 +155,6 @@ module _ (r : Register) (derived : ℕ → Origin) (k : Kept r) (shows : Shows r
       entitled-yes : Entitled r derived user p n → Yes r s p
       entitled-yes h =
           step-answer r (check s p) (kept← r k)
-          ∙ clear-verdict gs v ((lt→ltb _ _ (opened-lt s t), (lt→ltb _ _ (entitled-lt n user p l h), tt)), ((t, tt), tt))
+          ∙ clear-verdict gs v ((lt→ltb _ _ (opened-lt r k s t), (lt→ltb _ _ (entitled-lt n user p l h), tt)), ((t, tt), tt))
           ∙ at
           ∙ ap (λ (b : Bool). value (cond b 1 0)) (T→true (permits r (ofCapability n) user p) (entitled-permits n user p h))

@@ -1,7 +1,7 @@
 -- E1 to E8 and the four mistakes, computed. `quick` leaves the test of the shelf rules out before each call; that every call
 -- keeps them says that it may.
 use mathlib.Core.Path.{_≡_, refl, ap, ap₂, _∙_}
-use mathlib.Core.List.{List, [], _∷_, _++_}
+use mathlib.Core.List.{List, [], _∷_, zipWith}
 use Prim.Native.Nat.{ℕ}
 use lib.Count.{ones, onesIn}
 use Rattle.masks.specs.Masks.{has, within, including, excluding, joined}
@@ -29,7 +29,7 @@ use Rattle.model.proofs.Running.{step-keeps}
 
 -- what computes: a proof that says `unfolding calls-compute` computes calls, and so on
 unfoldable pub calls-compute : ℕ
-unfolding settled settle ruling enrolRuling foundRuling grantRuling cutPermissions withdrawRuling appointRuling dismissRuling clockRuling createRuling allowRuling lendRuling handRuling openRuling permits checkRuling closeRuling limited amendRuling marked revokeRuling domainOf alike sameRuling has within including excluding joined countBelow mapFrom rising exists roleAuthority lentAuthority authority roleLends mayLend terms below inContext admitted lineage member inLineage anyCreated root
+unfolding settled settle ruling enrolRuling foundRuling grantRuling cutPermissions withdrawRuling appointRuling dismissRuling clockRuling createRuling allowRuling lendRuling handRuling openRuling permits checkRuling closeRuling limited amendRuling marked revokeRuling domainOf zipWith alike sameRuling has within including excluding joined countBelow mapFrom rising exists roleAuthority lentAuthority authority roleLends mayLend terms below inContext admitted lineage member inLineage anyCreated root
 calls-compute = 0
 
 unfoldable pub rules-compute : ℕ

@@ -26,6 +26,7 @@ pub mod History
 pub mod Checks
 pub mod Revokes
 pub mod ListTheorem
+pub mod Alike
 pub mod Edges
 pub mod Listing
 pub mod Cases

@@ -189,8 +189,15 @@ broken r c e =
     sym (ap (λ (b : Bool). settle r ((15 unless (b ∷ [])) ∷ (ruling r c) .guards) ((ruling r c) .result) ((ruling r c) .after)) e)
 
 -- an accepted call, of any register
-pub step-value : (r : Register) (c : Call) {w : ℕ} → (step r c) .answer ≡ value w → Clear ((ruling r c) .guards) × ((ruling r c) .result ≡ w)
+step-accepted : (r : Register) (c : Call) {w : ℕ} → (step r c) .answer ≡ value w
+    → T (wellFormed r) × Clear ((ruling r c) .guards) × ((ruling r c) .result ≡ w)
 unfolding step
-step-value r c e =
+step-accepted r c e =
     let h = settle-value r (15 unless (wellFormed r ∷ []) ∷ (ruling r c) .guards) ((ruling r c) .result) ((ruling r c) .after) e in
-    (h .0 .1, h .1)
+    (h .0 .0 .0, h .0 .1, h .1)
+
+pub step-formed : (r : Register) (c : Call) {w : ℕ} → (step r c) .answer ≡ value w → T (wellFormed r)
+step-formed r c e = step-accepted r c e .0
+
+pub step-value : (r : Register) (c : Call) {w : ℕ} → (step r c) .answer ≡ value w → Clear ((ruling r c) .guards) × ((ruling r c) .result ≡ w)
+step-value r c e = (step-accepted r c e .1, step-accepted r c e .2)

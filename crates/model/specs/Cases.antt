@@ -1,5 +1,5 @@
--- Worked cases of the calls, beside those of `Edges.antt`: each pins a sentence of document 01 that no theorem speaks of.
--- The answers were worked out from the document by hand. `proofs/Cases.antt` proves them.
+-- Worked cases of the calls, beside those of `Edges.antt`: each pins a sentence of the specification, mostly one that no theorem
+-- speaks of. The answers were worked out from its words by hand. `proofs/Cases.antt` proves them.
 use mathlib.Core.Path.{_≡_}
 use mathlib.Core.List.{List, [], _∷_, _++_}
 use Prim.Native.Nat.{ℕ}
@@ -23,9 +23,13 @@ create-by user o = create user o (contextOf 9 0 0) (plan 9 9 9)
 abbrev open-by : (session user : ℕ) → Origin → Call
 open-by session user o = opening session user o (contextOf 9 0 0)
 
--- user 3 creates from role 1 a capability with this life
+-- user 3 creates from role 1 a capability with this plan, or with this life
+abbrev planned : (first last uses creations hops hours places devices : ℕ) → Call
+planned first last uses creations hops hours places devices =
+    create 3 (ofRole 1) (contextOf 9 0 0) (planOf first last uses creations hops hours places devices)
+
 abbrev living : (first last : ℕ) → Call
-living first last = create 3 (ofRole 1) (contextOf 9 0 0) (planOf first last 9 9 9 16777215 65535 65535)
+living first last = planned first last 9 9 9 16777215 65535 65535
 
 -- role 1 of `staffed` in domain 0, and its like in domain 1 with user 4: role 2
 abbrev pub two-domains : List Exchange
@@ -188,6 +192,66 @@ pub record CallCases : Type 0 where
       ∷ same 0 1 gets value 0
       ∷ lend 3 1 4 gets value 1
       ∷ same 0 1 gets value 1
+      ∷ []))
+  -- same asks for equal life, limits and context masks: 0 is the same as 1, and each of 2 to 9 differs from it in one number
+  pub same-constraints : Answered (staffed
+      ++ (planned 0 100 9 9 9 16777215 65535 65535 gets value 0
+      ∷ planned 0 100 9 9 9 16777215 65535 65535 gets value 1
+      ∷ planned 1 100 9 9 9 16777215 65535 65535 gets value 2
+      ∷ planned 0 99 9 9 9 16777215 65535 65535 gets value 3
+      ∷ planned 0 100 8 9 9 16777215 65535 65535 gets value 4
+      ∷ planned 0 100 9 8 9 16777215 65535 65535 gets value 5
+      ∷ planned 0 100 9 9 8 16777215 65535 65535 gets value 6
+      ∷ planned 0 100 9 9 9 8388607 65535 65535 gets value 7
+      ∷ planned 0 100 9 9 9 16777215 32767 65535 gets value 8
+      ∷ planned 0 100 9 9 9 16777215 65535 32767 gets value 9
+      ∷ same 0 1 gets value 1
+      ∷ same 0 2 gets value 0
+      ∷ same 0 3 gets value 0
+      ∷ same 0 4 gets value 0
+      ∷ same 0 5 gets value 0
+      ∷ same 0 6 gets value 0
+      ∷ same 0 7 gets value 0
+      ∷ same 0 8 gets value 0
+      ∷ same 0 9 gets value 0
+      ∷ []))
+  -- same asks for nothing else: not lent roles, holders and hops, uses, creations, origins, creators, marks
+  pub same-and-no-more : Answered (staffed
+      ++ (create-by 3 (ofRole 1) gets value 0
+      ∷ create-by 3 (ofRole 1) gets value 1
+      ∷ allow 3 0 17 gets value 17
+      ∷ lend 3 1 2 gets value 17
+      ∷ same 0 1 gets value 1
+      ∷ hand 3 3 0 gets value 1
+      ∷ same 0 1 gets value 1
+      ∷ open-0 5 9 gets value 0
+      ∷ same 0 1 gets value 1
+      ∷ create-by 3 (ofCapability 0) gets value 2
+      ∷ same 0 1 gets value 1
+      ∷ allow 3 2 17 gets value 17
+      ∷ same 0 2 gets value 1
+      ∷ enrol 4 0 gets value 0
+      ∷ appoint 4 1 gets value 0
+      ∷ create-by 4 (ofRole 1) gets value 3
+      ∷ allow 4 3 17 gets value 17
+      ∷ same 0 3 gets value 1
+      ∷ revoke 3 1 gets value 1
+      ∷ same 0 1 gets value 1
+      ∷ []))
+  -- amend cuts below a revoked capability too, and same shows it: 2 is below 1, revoked, below 0; 3 is as 2 was, 4 as it is then
+  pub cut-below-revoked : Answered (held
+      ++ (create-by 3 (ofCapability 0) gets value 1
+      ∷ allow 3 1 1 gets value 1
+      ∷ hand 3 3 1 gets value 1
+      ∷ create-by 3 (ofCapability 1) gets value 2
+      ∷ create-by 3 (ofRole 1) gets value 3
+      ∷ create-3 (ofRole 1) 5 9 9 gets value 4
+      ∷ revoke 3 1 gets value 2
+      ∷ same 2 3 gets value 1
+      ∷ same 2 4 gets value 0
+      ∷ amend 3 0 (lower 4) gets value 5
+      ∷ same 2 3 gets value 0
+      ∷ same 2 4 gets value 1
       ∷ []))
   -- the last number of each range is accepted; amend goes up to the origin's limit and no further
   pub last-of-ranges : Answered (enrol 63 7 gets value 0

@@ -22,6 +22,7 @@ pub mod Lists
 pub mod Theorem
 pub mod Runs
 pub mod Lives
+pub mod Alike
 pub mod Edges
 pub mod Listing
 pub mod Cases

@@ -2,6 +2,7 @@
 use Rattle.model.proofs.ListTheorem.{list-theorem}
 use Rattle.model.proofs.EachAnswer.{each-answer}
 use Rattle.model.proofs.Lives.{life-laws}
+use Rattle.model.proofs.Alike.{alike-laws}
 use Rattle.model.proofs.Runs.{journal-runs, batches-run, entry-returns}
 use Rattle.model.proofs.EmptyImage.{empty-image}
 use Rattle.model.proofs.Edges.{fresh-formed, edges}
@@ -22,6 +23,7 @@ promise =
       fresh-start = fresh-formed;
       each-answer = each-answer;
       life-laws = life-laws;
+      alike-laws = alike-laws;
       journal-runs = journal-runs;
       batches-run = batches-run;
       entry-returns = entry-returns;

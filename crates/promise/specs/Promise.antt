@@ -9,6 +9,7 @@ use contract.Monad.{Fun}
 use Rattle.model.specs.Theorem.{ListTheorem, FreshStart, EachAnswer}
 use Rattle.model.specs.Runs.{JournalRuns, BatchesRun, EntryReturns, EntryRuns}
 use Rattle.model.specs.Lives.{LifeLaws}
+use Rattle.model.specs.Alike.{AlikeLaws}
 use Rattle.model.specs.EmptyImage.{EmptyImage}
 use Rattle.model.specs.Edges.{Edges}
 use Rattle.model.specs.Listing.{Listing}
@@ -28,6 +29,8 @@ pub record Promise : Type 2 where
   pub each-answer : EachAnswer
   -- lives over every tick, and the calls that read the clock against them (`model`, Lives.antt)
   pub life-laws : LifeLaws
+  -- what same tells of two capabilities, and the checks and opens on two that it finds equal (`model`, Alike.antt)
+  pub alike-laws : AlikeLaws
   -- what runs are such lists (`model`, Runs.antt): a journal, batches one after the other, and calls from C on the image kept
   pub journal-runs : JournalRuns
   pub batches-run : BatchesRun

@@ -1,17 +1,17 @@
 // same, on a register that is known to be well-formed.
 ghost use mathlib.Core.Path.{_≡_};
-ghost use lib.Dec.{T};
+ghost use mathlib.Core.List.{zipWith};
+ghost use lib.Dec.{T, eqb};
+ghost use Rattle.masks.specs.Tests.{each};
 ghost use Rattle.model.specs.Rules.{wellFormed};
 ghost use Rattle.model.specs.Calls.{settled, same};
-ghost use Rattle.model.specs.Requests.{outcomeOf};
 ghost use Rattle.slots.specs.Guards.{guarded, firstNumber};
-ghost use Rattle.model.specs.Comparison.{sameGuards};
-ghost use Rattle.tree.specs.Guards.{sameAnswer};
+ghost use Rattle.model.specs.Comparison.{sameGuards, constraints};
 ghost use Rattle.tree.specs.Orders.{orderEffect};
 use crate::columns::lineage_of;
 use crate::lineage::root_of;
 use crate::orders::Order;
-use model::Answer;
+use model::Capability;
 use model::Refusal;
 use model::Register;
 use origins::authority::authority_in;
@@ -32,13 +32,18 @@ fn same_guards(count: u16, m: u32, n: u32) -> Guarded
     first(!((m < 256) & (n < 256)), Refusal::Range, k)
 }
 
-// 1 if the roles where two lineages end are of one domain, and the authorities a and b are equal.
-fn compare(count: u16, m: u32, n: u32, domain_a: u8, domain_b: u8, a: u32, b: u32) -> Answer
-    ensures { λ q. ⌜ outcomeOf q ≡ sameAnswer count m n «domain_a» «domain_b» a b ⌝ }
+// Life, limits and context masks are equal.
+fn same_constraints(c: Capability, d: Capability) -> bool
+    ensures { λ q. ⌜ q ≡ each (zipWith eqb (constraints c) (constraints d)) ⌝ }
 {
-    let k = same_guards(count, m, n);
-    let alike = (domain_a == domain_b) & (a == b);
-    answered(k, one_if(alike))
+    (c.first == d.first)
+        & (c.last == d.last)
+        & (c.use_limit == d.use_limit)
+        & (c.creation_limit == d.creation_limit)
+        & (c.hop_limit == d.hop_limit)
+        & (c.hours == d.hours)
+        & (c.places == d.places)
+        & (c.devices == d.devices)
 }
 
 // The answer; the register stays as it is.
@@ -56,5 +61,8 @@ pub fn same_order(r: Register, m: u32, n: u32) -> Order
     let y = roles[root_of(&origins, j) as usize];
     let a = authority_in(&columns, r.capabilities[i]);
     let b = authority_in(&columns, r.capabilities[j]);
-    Order::Answered(compare(r.count, m, n, x.domain, y.domain, a, b))
+    let alike = (x.domain == y.domain)
+        & (a == b)
+        & same_constraints(r.capabilities[i], r.capabilities[j]);
+    Order::Answered(answered(same_guards(r.count, m, n), one_if(alike)))
 }
