@@ -1,5 +1,5 @@
 //! What the register holds (§2), and what is read off it (§3): authority,
-//! bounds, membership, life, context and lineage.
+//! bounds, membership, life, context, lineage and what same compares.
 
 /// How many of each there can be (§1.2.1): numbers run from 0.
 pub const USERS: usize = 64;
@@ -119,6 +119,20 @@ pub struct Bounds {
     pub revoked: bool,
 }
 
+/// The names of the numbers in [`Register::compared`].
+pub const COMPARED: [&str; 10] = [
+    "domain",
+    "authority",
+    "first tick",
+    "last tick",
+    "use limit",
+    "creation limit",
+    "hop limit",
+    "hours",
+    "places",
+    "devices",
+];
+
 /// The lineage of a capability (§3.1.1).
 #[derive(Clone, Debug, PartialEq, Eq)]
 pub struct Lineage {
@@ -196,7 +210,7 @@ impl Register {
     }
 
     /// The own permissions of a capability joined with those of its lent roles.
-    fn joined(&self, capability: &Capability) -> u32 {
+    pub fn joined(&self, capability: &Capability) -> u32 {
         let mut authority = capability.permissions;
         for (number, role) in self.roles.iter().enumerate() {
             if has(capability.lent, number as u8) {
@@ -294,6 +308,25 @@ impl Register {
             capabilities.push(upper);
             origin = self.capability(upper).origin;
         }
+    }
+
+    /// All that same compares of a capability (§6.17.2), in the order of
+    /// [`COMPARED`]: the domain of the role at the end of its lineage, its
+    /// authority, life, limits and masks. Whatever is not here may differ.
+    pub fn compared(&self, number: u8) -> [u64; COMPARED.len()] {
+        let capability = self.capability(number);
+        [
+            self.role(self.lineage(number).role).domain.into(),
+            self.authority(Origin::Capability(number)).into(),
+            capability.first.into(),
+            capability.last.into(),
+            capability.use_limit.into(),
+            capability.creation_limit.into(),
+            capability.hop_limit.into(),
+            capability.hours.into(),
+            capability.places.into(),
+            capability.devices.into(),
+        ]
     }
 
     /// Whether the capability `lower` is below `upper`: another one, with

@@ -279,14 +279,20 @@ fn same_in_order_and_its_values() {
     accepts(&register, "same 2 2", 1);
     accepts(&register, "same 0 1", 0);
     accepts(&register, "same 2 3", 0); // both without authority, other domains
-    accept_all(&mut register, &["allow 1 1 16"]);
-    accepts(&register, "same 0 1", 1);
-    accepts(&register, "same 1 0", 1);
-    accept_all(&mut register, &["revoke 1 1", "lend 0 0 1", "allow 0 0 32"]);
-    accepts(&register, "same 0 1", 0);
+    let twin = format!("create 1 role 0 9 1 1 5 100 4 4 4 {ALL}");
+    accept_all(&mut register, &[&twin, "allow 1 4 1"]);
+    accepts(&register, "same 0 4", 0);
+    accept_all(&mut register, &["allow 1 4 16"]);
+    accepts(&register, "same 0 4", 1);
+    accepts(&register, "same 4 0", 1);
+    accept_all(&mut register, &["revoke 1 4", "lend 0 0 1", "allow 0 0 32"]);
+    accepts(&register, "same 0 4", 0);
     accept_all(&mut register, &["withdraw 0 5"]);
-    accepts(&register, "same 0 1", 1);
-    accept_all(&mut register, &["grant 2 0"]);
-    accept_all(&mut register, &["create 0 role 2 9 0 0 0 9 1 1 1 1023 1 1"]);
-    accepts(&register, "same 2 4", 1); // other roles of one domain
+    accepts(&register, "same 0 4", 1);
+    let lines = ["grant 2 0", "create 0 role 2 9 0 0 5 100 4 4 4 1023 1 1"];
+    accept_all(&mut register, &[lines[0], lines[1], lines[1], "grant 2 4", "lend 0 5 4"]);
+    accepts(&register, "same 5 6", 0);
+    accept_all(&mut register, &["allow 0 6 17"]);
+    accepts(&register, "same 5 6", 1); // one with a lent role
+    accepts(&register, "same 0 5", 0); // other contexts
 }

@@ -72,8 +72,5 @@ pub fn same(register: &Register, first: u64, second: u64) -> Answer {
     let second = arguments::capability(second)?;
     need_origin(register, Origin::Capability(first))?;
     need_origin(register, Origin::Capability(second))?;
-    let domain = |number| register.role(register.lineage(number).role).domain;
-    let authority = |number| register.authority(Origin::Capability(number));
-    let equal = domain(first) == domain(second) && authority(first) == authority(second);
-    Ok(u64::from(equal))
+    Ok(u64::from(register.compared(first) == register.compared(second)))
 }
