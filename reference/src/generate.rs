@@ -1,9 +1,11 @@
 //! Generators for tests and comparisons, all driven by a seeded
 //! [`crate::random::Random`]: requests that are mostly meaningful, registers
 //! that keep the rules, damage to registers and images, and images of few bytes;
-//! and a count of the requests that meet the border of a life.
+//! and counts of the requests that meet the border of a life, or that compare
+//! capabilities which are nearly alike.
 
 pub mod borders;
+pub mod comparisons;
 pub mod damage;
 mod draw;
 mod lives;
@@ -11,8 +13,10 @@ pub mod profile;
 pub mod registers;
 pub mod requests;
 pub mod short;
+mod twins;
 
 pub use borders::{Border, Borders};
+pub use comparisons::Comparisons;
 pub use damage::{damage_image, damage_register};
 pub use profile::Profile;
 pub use registers::register;

@@ -2,7 +2,7 @@
 
 use super::Profile;
 use crate::random::Random;
-use crate::register::{Bounds, Capability, Origin, Register};
+use crate::register::{Bounds, Capability, Origin, Register, PERMISSIONS};
 use crate::request::Named;
 
 /// The number of an origin as the argument of create and open.
@@ -33,8 +33,13 @@ impl Draw<'_> {
         self.random.below(self.profile.roles)
     }
 
+    /// A low permission, or in a quarter of the cases one of as many high ones.
     pub fn permission(&mut self) -> u64 {
-        self.random.below(self.profile.permissions)
+        let permission = self.random.below(self.profile.permissions);
+        match self.random.chance(1, 4) {
+            true => PERMISSIONS as u64 - 1 - permission,
+            false => permission,
+        }
     }
 
     /// A capability, more often a late one, and seldom one that is not there.

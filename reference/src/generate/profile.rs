@@ -11,13 +11,16 @@ pub struct Profile {
     pub domains: u64,
     /// Sessions are drawn below this number.
     pub sessions: u64,
-    /// Permissions are drawn below this number.
+    /// Permissions are drawn below this number, and seldom from as many that
+    /// are the highest.
     pub permissions: u64,
     /// In this many of 1000 requests one argument is replaced by any number.
     pub wild: u64,
     /// Of 16 limits, lives and masks of new capabilities so many are narrower
     /// than the origin's: the more, the sooner a lineage can go no deeper.
     pub narrow: u64,
+    /// Of 16 new capabilities so many are made nearly like one that is there.
+    pub twins: u64,
     /// The weight of each call, in the order of [`crate::request::WORDS`].
     pub weights: [u64; 17],
 }
@@ -34,7 +37,8 @@ impl Profile {
             permissions: 6,
             wild: 30,
             narrow: 6,
-            weights: [1, 1, 3, 2, 3, 2, 4, 14, 16, 7, 14, 14, 8, 8, 3, 6, 4],
+            twins: 4,
+            weights: [1, 1, 3, 2, 3, 2, 4, 14, 16, 7, 14, 14, 8, 8, 3, 6, 8],
         }
     }
 
@@ -42,7 +46,7 @@ impl Profile {
     /// thousand requests fill the register.
     pub fn crowded() -> Profile {
         Profile {
-            weights: [1, 1, 2, 1, 1, 1, 1, 40, 24, 10, 24, 12, 4, 6, 1, 6, 3],
+            weights: [1, 1, 2, 1, 1, 1, 1, 40, 24, 10, 24, 12, 4, 6, 1, 6, 6],
             ..Profile::small()
         }
     }
@@ -52,7 +56,8 @@ impl Profile {
     pub fn deep() -> Profile {
         Profile {
             narrow: 1,
-            weights: [1, 1, 2, 1, 1, 1, 1, 14, 30, 8, 30, 12, 4, 6, 1, 6, 3],
+            twins: 2,
+            weights: [1, 1, 2, 1, 1, 1, 1, 14, 30, 8, 30, 12, 4, 6, 1, 6, 6],
             ..Profile::small()
         }
     }
@@ -67,7 +72,8 @@ impl Profile {
             permissions: 32,
             wild: 30,
             narrow: 6,
-            weights: [4, 4, 12, 3, 8, 3, 2, 20, 18, 8, 20, 24, 8, 8, 3, 6, 4],
+            twins: 4,
+            weights: [4, 4, 12, 3, 8, 3, 2, 20, 18, 8, 20, 24, 8, 8, 3, 6, 8],
         }
     }
 

@@ -3,9 +3,10 @@
 //! as sessions of users who hold nothing.
 
 use super::lives::borders;
+use super::twins::{resembling, Terms};
 use crate::random::Random;
 use crate::register::{
-    Bounds, Capability, Context, Origin, Register, Role, Session, CAPABILITIES, DOMAINS,
+    exceeds, Bounds, Capability, Context, Origin, Register, Role, Session, CAPABILITIES, DOMAINS,
 };
 
 /// A random register that keeps the rules.
@@ -120,30 +121,69 @@ fn origin(random: &mut Random, register: &Register, depth: u64) -> Origin {
     Origin::Role(random.pick(&roles(register)))
 }
 
-/// A capability within the bounds of its origin.
+/// A capability within the bounds of its origin, often nearly the same as one
+/// that is there.
 fn capability(random: &mut Random, register: &Register, origin: Origin) -> Capability {
     let bounds = register.bounds(origin);
-    let (first, last) = life(random, &bounds);
-    let hop_limit = limit(random, bounds.hop_limit);
-    let holders = holders(random, register.enrolled, hop_limit);
-    Capability {
+    let twin = match random.chance(1, 2) {
+        true => resembling(random, register, origin),
+        false => None,
+    };
+    let terms = twin.map_or_else(|| terms(random, &bounds), |(_, terms)| terms);
+    let [first, last, use_limit, creation_limit, hop_limit, hours, places, devices] = terms;
+    let holders = holders(random, register.enrolled, hop_limit as u16);
+    let mut new = Capability {
         origin,
         creator: random.bit(register.enrolled).unwrap_or(0) as u8,
         permissions: random.subset(bounds.authority.into()) as u32,
         lent: random.subset(bounds.roles.into()) as u32,
         holders,
-        first,
-        last,
-        use_limit: limit(random, bounds.use_limit),
+        first: first as u32,
+        last: last as u32,
+        use_limit: use_limit as u16,
         uses: limit(random, u16::MAX),
-        creation_limit: limit(random, bounds.creation_limit),
+        creation_limit: creation_limit as u16,
         creations: 0,
-        hop_limit,
+        hop_limit: hop_limit as u16,
         hops: holders.count_ones() as u16,
-        hours: wide_subset(random, bounds.hours) as u32,
-        places: wide_subset(random, bounds.places.into()) as u16,
-        devices: wide_subset(random, bounds.devices.into()) as u16,
+        hours: hours as u32,
+        places: places as u16,
+        devices: devices as u16,
         revoked: bounds.revoked || random.chance(1, 16),
+    };
+    if let Some((model, _)) = twin.filter(|_| random.chance(3, 4)) {
+        match_authority(random, register, &mut new, model);
+    }
+    new
+}
+
+/// Life, limits and masks within the bounds.
+fn terms(random: &mut Random, bounds: &Bounds) -> Terms {
+    let (first, last) = life(random, bounds);
+    [
+        first.into(),
+        last.into(),
+        limit(random, bounds.use_limit).into(),
+        limit(random, bounds.creation_limit).into(),
+        limit(random, bounds.hop_limit).into(),
+        wide_subset(random, bounds.hours),
+        wide_subset(random, bounds.places.into()),
+        wide_subset(random, bounds.devices.into()),
+    ]
+}
+
+/// Gives the new capability the authority of the model, as far as its origin
+/// has it, or sometimes all but the highest bit, and keeps the roles lent to it
+/// if they add nothing else.
+fn match_authority(random: &mut Random, register: &Register, new: &mut Capability, model: u8) {
+    let authority = register.authority(Origin::Capability(model));
+    let lent = register.joined(&Capability { permissions: 0, ..*new });
+    new.permissions = authority & register.bounds(new.origin).authority;
+    if random.chance(1, 4) {
+        new.permissions &= !new.permissions.checked_ilog2().map_or(0, |bit| 1 << bit);
+    }
+    if exceeds(lent, authority) {
+        new.lent = 0;
     }
 }
 

@@ -111,7 +111,7 @@ impl Draw<'_> {
             13 => self.amend(),
             14 => self.revoke(),
             15 => Request::Close { session: self.session(true) },
-            _ => Request::Same { first: self.capability(), second: self.capability() },
+            _ => self.same(),
         }
     }
 
@@ -158,9 +158,11 @@ impl Draw<'_> {
             has(register.authority(Origin::Capability(number)), CREATE)
                 && capability.creations < capability.creation_limit
         };
+        let twin = self.random.chance(self.profile.twins, 16);
+        let role = self.staffed_role().filter(|_| twin && self.random.chance(1, 3));
         let origin = match self.bordering(fertile) {
             Some(number) => Origin::Capability(number),
-            None => self.origin(fertile),
+            None => role.unwrap_or_else(|| self.origin(fertile)),
         };
         let bounds = self.register.bounds(origin);
         let (first, last) = self.life(&bounds);
@@ -179,6 +181,9 @@ impl Draw<'_> {
             places: self.narrowed(bounds.places.into()),
             devices: self.narrowed(bounds.devices.into()),
         };
+        if twin {
+            self.resemble(&mut creation, origin);
+        }
         if self.random.chance(1, 12) {
             self.enlarge(&mut creation);
         }
@@ -203,6 +208,11 @@ impl Draw<'_> {
     }
 
     fn allow(&mut self) -> Request {
+        if self.random.chance(1, 4) {
+            if let Some((capability, permissions)) = self.catching_up() {
+                return Request::Allow { user: self.creator(capability), capability, permissions };
+            }
+        }
         let capability = self.lacking(|kept| kept.permissions == 0);
         let authority = u64::from(self.bounds_above(capability).authority);
         let permissions = match self.random.below(12) {
@@ -215,7 +225,11 @@ impl Draw<'_> {
     }
 
     fn lend(&mut self) -> Request {
-        let capability = self.lacking(|kept| kept.lent == 0);
+        let caught_up = match self.random.chance(1, 4) {
+            true => self.catching_up_by_roles(),
+            false => None,
+        };
+        let capability = caught_up.unwrap_or_else(|| self.lacking(|kept| kept.lent == 0));
         let roles = match self.random.below(12) {
             0 => 1 << self.role(),
             1 => 0,
