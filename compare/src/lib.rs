@@ -4,6 +4,8 @@
 
 pub mod answers;
 pub mod borders;
+pub mod comparisons;
+pub mod met;
 pub mod registers;
 pub mod requests;
 pub mod tally;

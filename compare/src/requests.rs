@@ -1,6 +1,6 @@
 //! Random lines that fit a register, so that most of them are meaningful.
 
-use reference::generate::{request, Borders, Profile};
+use reference::generate::{request, Profile};
 use reference::random::Random;
 use reference::{apply_trusted, lines, Register, Request};
 
@@ -29,7 +29,7 @@ pub fn damage(random: &mut Random, line: &mut Vec<u8>) {
 }
 
 /// The request of a line with its line feed, if it has one.
-fn request_of(line: &[u8]) -> Option<Request> {
+pub fn request_of(line: &[u8]) -> Option<Request> {
     line.strip_suffix(b"\n").and_then(lines::parse)
 }
 
@@ -37,12 +37,5 @@ fn request_of(line: &[u8]) -> Option<Request> {
 pub fn follow(register: &mut Register, line: &[u8]) {
     if let Some(request) = request_of(line) {
         let _ = apply_trusted(register, &request);
-    }
-}
-
-/// Counts the borders of lives that the line meets on the register.
-pub fn count_borders(borders: &mut Borders, register: &Register, line: &[u8]) {
-    if let Some(request) = request_of(line) {
-        borders.add(register, &request);
     }
 }

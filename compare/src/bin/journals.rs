@@ -4,26 +4,43 @@
 //! usage: journals PROGRAM JOURNALS. The last line is 'N passed, M failed',
 //! where each journal counts once.
 
-use compare::borders::{self, Least};
-use compare::requests::{count_borders, follow, line, PROFILES};
+use compare::comparisons;
+use compare::met::{Least, Met};
+use compare::requests::{follow, line, PROFILES};
 use compare::tally::Tally;
-use reference::generate::Borders;
 use reference::journal::{self, LONGEST_INPUT};
 use reference::random::Random;
 use reference::Register;
 use std::io::{self, Write};
 use std::process::{Command, ExitCode, Stdio};
 
-/// How often each 300 journals must meet the borders of lives. No journal opens
-/// a session on a life without a tick.
-const LEAST: Least = [
-    [100, 55, 12],   // the first tick
-    [200, 115, 60],  // before the last
-    [80, 50, 25],    // the last
-    [65, 45, 8],     // the last of all
-    [45, 35, 0],     // no tick
-    [280, 200, 120], // a role at the end
-];
+/// How often each 300 journals must meet the borders of lives, and pairs that are
+/// nearly alike. No journal opens a session on a life without a tick.
+const LEAST: Least = Least {
+    borders: [
+        [100, 55, 12],   // the first tick
+        [200, 115, 60],  // before the last
+        [80, 50, 25],    // the last
+        [65, 45, 8],     // the last of all
+        [45, 35, 0],     // no tick
+        [280, 200, 120], // a role at the end
+    ],
+    comparisons: comparisons::Least {
+        decided: [
+            [25, 25, 25],  // domain
+            [110, 60, 8],  // authority
+            [75, 50, 6],   // first tick
+            [80, 28, 10],  // last tick
+            [130, 80, 10], // use limit
+            [75, 35, 8],   // creation limit
+            [70, 30, 12],  // hop limit
+            [80, 30, 30],  // hours
+            [80, 40, 38],  // places
+            [90, 40, 45],  // devices
+        ],
+        disregarded: [480, 500, 22, 220, 140, 600, 340, 450, 400, 120],
+    },
+};
 
 /// A journal of at most `size` bytes whose requests follow what they do to a
 /// register.
@@ -52,14 +69,14 @@ fn random_size(random: &mut Random) -> usize {
     }
 }
 
-/// Counts the borders of lives that the journal meets, if it is played at all.
-fn count_borders_of(borders: &mut Borders, input: &[u8]) {
+/// Counts what the lines of the journal meet, if it is played at all.
+fn count(met: &mut Met, input: &[u8]) {
     if input.len() > LONGEST_INPUT {
         return;
     }
     let mut register = Register::fresh();
     for line in input.split_inclusive(|&byte| byte == b'\n') {
-        count_borders(borders, &register, line);
+        met.add(&register, line);
         follow(&mut register, line);
     }
 }
@@ -81,14 +98,14 @@ fn main() -> ExitCode {
     let program = arguments.get(1).expect("usage: journals PROGRAM JOURNALS");
     let journals = arguments.get(2).and_then(|count| count.parse().ok()).unwrap_or(200);
     let (mut told, mut accepted) = (0, 0);
-    let mut met = Borders::default();
+    let mut met = Met::default();
     let mut tally = Tally::default();
     tally.play(journals, |seed| {
         let mut random = Random::new(seed);
         let size = random_size(&mut random);
         let input = random_journal(&mut random, size);
         let expected = journal::run(&input);
-        count_borders_of(&mut met, &input);
+        count(&mut met, &input);
         told += expected.iter().filter(|&&byte| byte == b'\n').count();
         accepted += expected.windows(3).filter(|window| window == b"ok ").count();
         match printed(program, &input) {
@@ -99,6 +116,6 @@ fn main() -> ExitCode {
     });
     println!("{told} answers compared, {accepted} of them ok");
     tally.require(accepted > 0, "an accepted line");
-    borders::require(&mut tally, &met, &LEAST.map(|row| row.map(|least| journals / 300 * least)));
+    met.require(&mut tally, &LEAST.times(journals / 300));
     tally.finish()
 }

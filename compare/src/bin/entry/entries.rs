@@ -6,12 +6,13 @@
 use crate::library::{Areas, LARGEST, ROOMY};
 use crate::malformed::malformed;
 use compare::answers::Answers;
-use compare::borders::{self, Least};
+use compare::comparisons;
+use compare::met::{Least, Met};
 use compare::registers::varied;
-use compare::requests::{count_borders, follow, line, PROFILES};
+use compare::requests::{follow, line, PROFILES};
 use compare::tally::Tally;
 use compare::without_bytes;
-use reference::generate::{damage_image, Borders, Profile};
+use reference::generate::{damage_image, Profile};
 use reference::image::LONGEST;
 use reference::random::Random;
 use reference::{encode, Register};
@@ -26,15 +27,33 @@ const LINES: usize = 50;
 /// Lines of a batch on an image without bytes.
 const ON_NO_BYTES: usize = 24;
 
-/// How often the lines must meet the borders of lives.
-const LEAST: Least = [
-    [30, 14, 3],  // the first tick
-    [60, 33, 19], // before the last
-    [19, 10, 6],  // the last
-    [22, 17, 7],  // the last of all
-    [15, 11, 2],  // no tick
-    [18, 15, 11], // a role at the end
-];
+/// How often the lines must meet the borders of lives, and pairs that are nearly
+/// alike.
+const LEAST: Least = Least {
+    borders: [
+        [30, 14, 3],  // the first tick
+        [60, 33, 19], // before the last
+        [19, 10, 6],  // the last
+        [22, 17, 7],  // the last of all
+        [15, 11, 2],  // no tick
+        [18, 15, 11], // a role at the end
+    ],
+    comparisons: comparisons::Least {
+        decided: [
+            [12, 12, 12], // domain
+            [30, 14, 3],  // authority
+            [22, 13, 3],  // first tick
+            [18, 7, 4],   // last tick
+            [30, 20, 3],  // use limit
+            [24, 8, 4],   // creation limit
+            [26, 12, 7],  // hop limit
+            [21, 10, 8],  // hours
+            [19, 7, 9],   // places
+            [20, 12, 6],  // devices
+        ],
+        disregarded: [130, 120, 5, 40, 45, 150, 100, 110, 110, 24],
+    },
+};
 
 /// How often the answers on no bytes must be given, each of [`ROOMS`] be met,
 /// and each place of the image.
@@ -54,7 +73,7 @@ const ROOMS: [&str; 4] = ["for nothing", "for less", "for just the image", "for 
 #[derive(Default)]
 struct Seen {
     answers: Answers,
-    borders: Borders,
+    met: Met,
     without_bytes: Answers,
     /// On no bytes, the areas of lines that only want of room refuses.
     rooms: [u64; ROOMS.len()],
@@ -65,7 +84,7 @@ pub fn run() -> ExitCode {
     let mut seen = Seen::default();
     let mut tally = Tally::default();
     tally.play(BATCHES, |seed| play(seed, &mut areas, &mut seen));
-    let Seen { answers, borders, without_bytes, rooms } = seen;
+    let Seen { answers, met, without_bytes, rooms } = seen;
     println!("{} lines: {answers}", answers.total());
     tally.require(answers.accepted() > 0, "an accepted line");
     tally.require(answers.refused_by_call() > 0, "a call's own refusal");
@@ -75,7 +94,7 @@ pub fn run() -> ExitCode {
     without_bytes::require(&mut tally, &without_bytes, &LEAST_WITHOUT_BYTES);
     require_rooms(&mut tally, &rooms);
     areas.require_places(&mut tally, LEAST_PLACES);
-    borders::require(&mut tally, &borders, &LEAST);
+    met.require(&mut tally, &LEAST);
     tally.finish()
 }
 
@@ -106,7 +125,7 @@ fn play(seed: u64, areas: &mut Areas, seen: &mut Seen) -> Result<(), String> {
             seen.answers.add(answer);
             // 16 would hide what the call itself answers
             if image == saved && answer != -16 {
-                count_borders(&mut seen.borders, &register, &line);
+                seen.met.add(&register, &line);
             }
         }
     }

@@ -4,11 +4,11 @@
 
 use crate::library::{Areas, ROOMY};
 use compare::answers::Answers;
-use compare::borders::{self, Least};
-use compare::requests::{count_borders, follow, line, PROFILES};
+use compare::comparisons;
+use compare::met::{Least, Met};
+use compare::requests::{follow, line, PROFILES};
 use compare::tally::Tally;
 use compare::without_bytes;
-use reference::generate::Borders;
 use reference::random::Random;
 use reference::register::CAPABILITIES;
 use reference::{encode, generate, Register};
@@ -29,16 +29,33 @@ const LEAST_PLACES: u64 = 130;
 const LEAST_WITHOUT_BYTES: without_bytes::Least =
     without_bytes::Least { accepted: 110, refused_by_call: 130, malformed: 25, area_too_short: 0 };
 
-/// How often the lists must meet the borders of lives. Seldom a session is open
-/// on a life without a tick.
-const LEAST: Least = [
-    [50, 40, 8],     // the first tick
-    [200, 110, 70],  // before the last
-    [90, 65, 25],    // the last
-    [140, 190, 30],  // the last of all
-    [40, 40, 0],     // no tick
-    [300, 330, 280], // a role at the end
-];
+/// How often the lists must meet the borders of lives, and pairs that are nearly
+/// alike. Seldom a session is open on a life without a tick.
+const LEAST: Least = Least {
+    borders: [
+        [50, 40, 8],     // the first tick
+        [200, 110, 70],  // before the last
+        [90, 65, 25],    // the last
+        [140, 190, 30],  // the last of all
+        [40, 40, 0],     // no tick
+        [300, 330, 280], // a role at the end
+    ],
+    comparisons: comparisons::Least {
+        decided: [
+            [35, 35, 35],  // domain
+            [130, 50, 8],  // authority
+            [100, 60, 8],  // first tick
+            [100, 32, 12], // last tick
+            [140, 75, 15], // use limit
+            [110, 50, 15], // creation limit
+            [105, 55, 12], // hop limit
+            [125, 50, 40], // hours
+            [125, 48, 60], // places
+            [110, 50, 48], // devices
+        ],
+        disregarded: [700, 650, 25, 300, 200, 800, 500, 600, 480, 170],
+    },
+};
 
 /// What occurred in the lists.
 #[derive(Default)]
@@ -48,7 +65,7 @@ struct Seen {
     without_bytes: Answers,
     /// Loads of no bytes on the way.
     loads: u64,
-    borders: Borders,
+    met: Met,
     /// Calls that added the last pass that there can be.
     capabilities_filled: u64,
     /// Calls that opened the last session that was not open.
@@ -60,8 +77,7 @@ pub fn run() -> ExitCode {
     let mut seen = Seen::default();
     let mut tally = Tally::default();
     tally.play(LISTS + LOADING, |seed| play(seed, &mut areas, &mut seen));
-    let Seen { answers, without_bytes, loads, borders, capabilities_filled, sessions_filled } =
-        seen;
+    let Seen { answers, without_bytes, loads, met, capabilities_filled, sessions_filled } = seen;
     println!("{} calls, with {loads} loads of no bytes: {answers}", answers.total());
     println!(
         "filled: with 256 passes {capabilities_filled} times, with 64 sessions {sessions_filled}"
@@ -75,7 +91,7 @@ pub fn run() -> ExitCode {
     tally.require_often(loads, LEAST_LOADS, "a load of no bytes in a list");
     without_bytes::require(&mut tally, &without_bytes, &LEAST_WITHOUT_BYTES);
     areas.require_places(&mut tally, LEAST_PLACES);
-    borders::require(&mut tally, &borders, &LEAST);
+    met.require(&mut tally, &LEAST);
     tally.finish()
 }
 
@@ -115,7 +131,7 @@ impl Seen {
         if image.is_empty() {
             self.without_bytes.add(answer);
         }
-        count_borders(&mut self.borders, register, line);
+        self.met.add(register, line);
     }
 }
 
