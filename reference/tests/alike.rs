@@ -86,6 +86,26 @@ fn each_number_is_compared_with_its_own_kind() {
     }
 }
 
+/// Lives as long, limits that add up to as much, masks with as many bits.
+#[test]
+fn what_merely_adds_up_is_not_the_same() {
+    let base = [7, 9, 5, 6, 7, 0b11, 0b11, 0b11];
+    let others = [
+        [8, 10, 5, 6, 7, 0b11, 0b11, 0b11],
+        [7, 9, 4, 7, 7, 0b11, 0b11, 0b11],
+        [7, 9, 5, 5, 8, 0b11, 0b11, 0b11],
+        [7, 9, 5, 6, 7, 0b101, 0b11, 0b11],
+        [7, 9, 5, 6, 7, 0b11, 0b101, 0b11],
+        [7, 9, 5, 6, 7, 0b11, 0b11, 0b101],
+    ];
+    for other in others {
+        let mut register = with_roles();
+        let lines = [create(0, "role 0", base), create(0, "role 0", other)];
+        accept_all(&mut register, &[&lines[0], &lines[1]]);
+        compares(&register, [0, 1], 0);
+    }
+}
+
 /// Both on roles with all permissions; each of the 32 as an own one.
 #[test]
 fn each_bit_of_the_authority_decides_alone() {
