@@ -1,4 +1,4 @@
-//! What same compares and what it passes over (§6.17.2), each alone.
+//! What same compares and what it passes over (§6.17.2, §6.17.3), each alone.
 
 mod common;
 

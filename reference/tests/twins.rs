@@ -4,7 +4,7 @@
 mod common;
 
 use common::{accept_all, after, ALL};
-use reference::generate::comparisons::{Comparisons, DISREGARDED, PARTS};
+use reference::generate::comparisons::{Comparisons, BALANCED, DISREGARDED, PARTS};
 use reference::generate::{self, Profile};
 use reference::random::Random;
 use reference::register::COMPARED;
@@ -117,6 +117,41 @@ fn what_is_passed_over_is_counted() {
     met(&twin, &lines, &["own permissions"]);
 }
 
+const BALANCE: [u64; 8] = [3, 7, 5, 6, 7, 3, 3, 3];
+
+/// Numbers that differ and add up to the same are counted by what they add up
+/// to.
+#[test]
+fn what_adds_up_to_the_same_is_counted() {
+    let balanced = |terms: [u64; 8]| {
+        let mut register = with_one();
+        accept_all(&mut register, &[&create(0, "role 0", BALANCE), &create(0, "role 0", terms)]);
+        let mut comparisons = Comparisons::default();
+        comparisons.add(&register, &parse(b"same 1 2").expect("a request"));
+        [0, 1, 2].map(|place| comparisons.balanced(place))
+    };
+    assert_eq!(BALANCED.len(), 3);
+    assert_eq!(balanced([4, 8, 5, 6, 7, 3, 3, 3]), [1, 0, 0]);
+    assert_eq!(balanced([3, 7, 4, 7, 7, 3, 3, 3]), [0, 1, 0]);
+    assert_eq!(balanced([3, 7, 4, 6, 8, 3, 3, 3]), [0, 1, 0]);
+    assert_eq!(balanced([3, 7, 4, 5, 9, 3, 3, 3]), [0, 1, 0]);
+    for terms in [[5, 3, 3], [3, 6, 3], [3, 3, 9], [5, 5, 5]] {
+        let [hours, places, devices] = terms;
+        assert_eq!(balanced([3, 7, 5, 6, 7, hours, places, devices]), [0, 0, 1]);
+    }
+    let none = [
+        BALANCE,
+        [4, 9, 5, 6, 7, 3, 3, 3],
+        [3, 7, 5, 6, 8, 3, 3, 3],
+        [4, 8, 4, 7, 7, 3, 3, 3],
+        [3, 7, 5, 6, 7, 1, 3, 3],
+        [3, 7, 5, 6, 7, 1, 7, 3],
+    ];
+    for terms in none {
+        assert_eq!(balanced(terms), [0; 3], "{terms:?}");
+    }
+}
+
 #[test]
 fn other_requests_count_nothing() {
     let mut register = with_one();
@@ -143,6 +178,8 @@ fn assert_often(comparisons: &Comparisons, decided: u64, parts: u64, disregarded
     let both_ends = numbers[2..].iter().all(|met| met[1] >= parts && met[2] >= parts);
     assert!(both_ends, "{numbers:?}");
     assert!(others.iter().all(|&met| met >= disregarded), "{others:?}");
+    let balanced = [0, 1, 2].map(|place| comparisons.balanced(place));
+    assert!(balanced.iter().all(|&met| met >= parts), "{balanced:?}");
 }
 
 #[test]
@@ -156,7 +193,7 @@ fn requests_of_every_profile_compare_twins() {
             let list = generate::requests(&mut random, &Register::fresh(), profile, 800);
             count_requests(&mut comparisons, &Register::fresh(), &list);
         }
-        assert_often(&comparisons, 20, 1, 25);
+        assert_often(&comparisons, 30, 3, 15);
     }
 }
 

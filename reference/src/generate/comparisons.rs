@@ -18,17 +18,23 @@ pub const DISREGARDED: [&str; 10] = [
     "revoked mark",
 ];
 
+/// What two capabilities that differ only there have in common and are not the
+/// same.
+pub const BALANCED: [&str; 3] =
+    ["length of their lives", "sum of their limits", "number of bits in their masks"];
+
 /// Where two numbers differ.
 pub const PARTS: [&str; 3] = ["anywhere", "in the lowest byte alone", "in the highest byte alone"];
 
 /// The widths of the numbers of [`COMPARED`] in bits; a domain fills no byte.
-const WIDTHS: [u32; COMPARED.len()] = [8, 32, 32, 32, 16, 16, 16, 24, 16, 16];
+pub(super) const WIDTHS: [u32; COMPARED.len()] = [8, 32, 32, 32, 16, 16, 16, 24, 16, 16];
 
 /// The counts.
 #[derive(Clone, Debug, Default)]
 pub struct Comparisons {
     decided: [[u64; PARTS.len()]; COMPARED.len()],
     disregarded: [u64; DISREGARDED.len()],
+    balanced: [u64; BALANCED.len()],
 }
 
 impl Comparisons {
@@ -39,6 +45,9 @@ impl Comparisons {
             return;
         };
         let numbers = [first, second].map(|number| register.compared(number));
+        if let Some(place) = balanced(&numbers[0], &numbers[1]) {
+            self.balanced[place] += 1;
+        }
         match gap(&numbers[0], &numbers[1]) {
             Gap::None => self.add_same(register, first, second),
             Gap::At(place) => self.add_decided(place, numbers[0][place] ^ numbers[1][place]),
@@ -72,6 +81,12 @@ impl Comparisons {
     pub fn disregarded(&self, place: usize) -> u64 {
         self.disregarded[place]
     }
+
+    /// How often the answer was 0 though what [`BALANCED`] has at this place was
+    /// equal, and so was all beside it.
+    pub fn balanced(&self, place: usize) -> u64 {
+        self.balanced[place]
+    }
 }
 
 /// The two capabilities which a same names, if they are there.
@@ -99,6 +114,21 @@ pub fn gap(first: &[u64; COMPARED.len()], second: &[u64; COMPARED.len()]) -> Gap
         (None, _) => Gap::None,
         (Some(place), None) => Gap::At(place),
         _ => Gap::Wider,
+    }
+}
+
+/// The place in [`BALANCED`] of what is equal, if they differ in nothing else
+/// than in their lives, limits or masks.
+pub fn balanced(first: &[u64; COMPARED.len()], second: &[u64; COMPARED.len()]) -> Option<usize> {
+    let equal = |from: usize, to: usize| first[from..to] == second[from..to];
+    let length = |numbers: &[u64; COMPARED.len()]| numbers[3] - numbers[2];
+    let sum = |numbers: &[u64; COMPARED.len()]| numbers[4..7].iter().sum::<u64>();
+    let bits = |numbers: &[u64; COMPARED.len()]| [7, 8, 9].map(|at| numbers[at].count_ones());
+    match [equal(0, 2), equal(2, 4), equal(4, 7), equal(7, 10)] {
+        [true, false, true, true] if length(first) == length(second) => Some(0),
+        [true, true, false, true] if sum(first) == sum(second) => Some(1),
+        [true, true, true, false] if bits(first) == bits(second) => Some(2),
+        _ => None,
     }
 }
 

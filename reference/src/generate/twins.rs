@@ -1,7 +1,9 @@
 //! Draws of capabilities that agree in all that same compares (§6.17.2) or in
 //! all but one number, which those drawn apart from each other hardly do.
 
-use super::comparisons::{differing, disregarded, gap, Gap, DISREGARDED};
+use super::comparisons::{
+    balanced, differing, disregarded, gap, Gap, BALANCED, DISREGARDED, WIDTHS,
+};
 use super::draw::Draw;
 use crate::random::Random;
 use crate::register::{
@@ -13,12 +15,20 @@ use crate::request::{Creation, Request};
 /// limits and masks, in the order of create's last arguments.
 pub type Terms = [u64; 8];
 
-/// Their widths in bits.
-const WIDTHS: [u64; 8] = [32, 32, 16, 16, 16, 24, 16, 16];
-/// How many kinds of pairs there are.
-const KINDS: usize = COMPARED.len() + DISREGARDED.len();
+/// The place of their first in [`COMPARED`], after domain and authority.
+const FIRST: usize = 2;
+/// Where kinds of pairs begin that differ in nothing which counts, where those
+/// that add up to the same, and how many kinds there are.
+const PASSED_OVER: usize = COMPARED.len();
+const ADDED_UP: usize = PASSED_OVER + DISREGARDED.len();
+const KINDS: usize = ADDED_UP + BALANCED.len();
 /// The place of the authority in [`COMPARED`].
 const AUTHORITY: usize = 1;
+
+/// The width in bits of the term at this place.
+fn width(place: usize) -> u64 {
+    WIDTHS[FIRST + place].into()
+}
 
 /// The terms of a capability.
 fn terms(capability: &Capability) -> Terms {
@@ -72,7 +82,8 @@ fn end(register: &Register, origin: Origin) -> u8 {
 }
 
 /// A model for a capability on the origin, and terms that differ from those of
-/// the model in one number at most, and in none if the domains differ.
+/// the model in one number at most, and in none if the domains differ; or seldom
+/// terms that add up to the same.
 pub fn resembling(random: &mut Random, register: &Register, origin: Origin) -> Option<(u8, Terms)> {
     let model = model(random, register, origin)?;
     let terms = terms(register.capability(model));
@@ -81,15 +92,42 @@ pub fn resembling(random: &mut Random, register: &Register, origin: Origin) -> O
     if domain != other || random.chance(1, 4) {
         return Some((model, terms));
     }
-    let place = random.below(WIDTHS.len() as u64) as usize;
+    let place = random.below(terms.len() as u64) as usize;
     let bounds = register.bounds(origin);
+    let shifted = random.chance(1, 5);
     let varied = |_| {
         let mut varied = terms;
-        varied[place] = changed(random, terms[place], WIDTHS[place]);
+        match shifted {
+            true => shift(random, &mut varied),
+            false => varied[place] = changed(random, terms[place], width(place)),
+        }
         varied
     };
     let varied = (0..8).map(varied).find(|varied| fit(varied, &bounds));
     Some((model, varied.unwrap_or(terms)))
+}
+
+/// Moves the whole life, a part of a limit to another one, or a bit of a mask.
+fn shift(random: &mut Random, terms: &mut Terms) {
+    let by = random.between(1, 9);
+    let [first, last, ..] = *terms;
+    match random.below(10) {
+        0..=2 => (terms[0], terms[1]) = (first + by, last + by),
+        3..=5 => (terms[0], terms[1]) = (first.wrapping_sub(by), last.wrapping_sub(by)),
+        6 | 7 => {
+            let from = random.between(2, 4) as usize;
+            let to = 2 + (from - 1) % 3;
+            let part = by.min(terms[from]);
+            (terms[from], terms[to]) = (terms[from] - part, terms[to] + part);
+        }
+        _ => {
+            let mask = random.between(5, 7) as usize;
+            let free = ((1 << width(mask)) - 1) & !terms[mask];
+            if let (Some(from), Some(to)) = (random.bit(terms[mask]), random.bit(free)) {
+                terms[mask] ^= 1 << from | 1 << to;
+            }
+        }
+    }
 }
 
 /// Another number of this width: one less or more, with another bit, or with
@@ -107,8 +145,9 @@ fn changed(random: &mut Random, number: u64, width: u64) -> u64 {
 }
 
 impl Draw<'_> {
-    /// Gives the creation the terms of a capability that is there, or all but
-    /// one of them, if there is one whose terms fit the origin.
+    /// Gives the creation the terms of a capability that is there, all but one
+    /// of them, or terms that add up to the same, if there is one whose terms fit
+    /// the origin.
     pub fn resemble(&mut self, creation: &mut Creation, origin: Origin) {
         if let Some((_, terms)) = resembling(self.random, self.register, origin) {
             let arguments = creation.arguments_mut().into_iter().rev();
@@ -176,8 +215,8 @@ impl Draw<'_> {
     }
 
     /// Of two capabilities, mostly ones that differ in one number alone of those
-    /// which are compared, or only in something else: each of these differences
-    /// is as likely, if there is a pair for it.
+    /// which are compared, only in something else, or in numbers that add up to
+    /// the same: each of these kinds is as likely, if there is a pair for it.
     pub fn same(&mut self) -> Request {
         let any = Request::Same { first: self.capability(), second: self.capability() };
         let mut kinds = self.pairs().to_vec();
@@ -194,18 +233,23 @@ impl Draw<'_> {
     }
 
     /// The pairs that differ in one number of [`COMPARED`] alone, by its place,
-    /// and after them those that differ in something of [`DISREGARDED`] only.
+    /// after them those that differ in something of [`DISREGARDED`] only, and
+    /// last those that agree in something of [`BALANCED`].
     fn pairs(&self) -> [Vec<[u64; 2]>; KINDS] {
         let all = self.compared();
         let mut pairs = [const { Vec::new() }; KINDS];
         for second in self.register.numbers() {
             for first in 0..second {
                 let pair = [u64::from(first), u64::from(second)];
-                match gap(&all[usize::from(first)], &all[usize::from(second)]) {
+                let (lower, upper) = (&all[usize::from(first)], &all[usize::from(second)]);
+                if let Some(place) = balanced(lower, upper) {
+                    pairs[ADDED_UP + place].push(pair);
+                }
+                match gap(lower, upper) {
                     Gap::None => {
                         let [one, other] = [first, second].map(|n| disregarded(self.register, n));
                         differing(&one, &other)
-                            .for_each(|place| pairs[COMPARED.len() + place].push(pair));
+                            .for_each(|place| pairs[PASSED_OVER + place].push(pair));
                     }
                     Gap::At(place) => pairs[place].push(pair),
                     Gap::Wider => (),
