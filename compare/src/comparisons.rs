@@ -1,15 +1,17 @@
 //! Demands on how many pairs that were compared by same are nearly alike.
 
 use crate::tally::Tally;
-use reference::generate::comparisons::{Comparisons, DISREGARDED, PARTS};
+use reference::generate::comparisons::{Comparisons, BALANCED, DISREGARDED, PARTS};
 use reference::register::COMPARED;
 
 /// How often each number alone must decide, by the parts in which it differs, in
-/// the order of [`COMPARED`] and [`PARTS`]; and how often a difference must be
-/// passed over, in the order of [`DISREGARDED`].
+/// the order of [`COMPARED`] and [`PARTS`]; how often a difference must be passed
+/// over, in the order of [`DISREGARDED`]; and how often numbers that differ must
+/// add up to the same, in the order of [`BALANCED`].
 pub struct Least {
     pub decided: [[u64; PARTS.len()]; COMPARED.len()],
     pub disregarded: [u64; DISREGARDED.len()],
+    pub balanced: [u64; BALANCED.len()],
 }
 
 impl Least {
@@ -18,6 +20,7 @@ impl Least {
         Least {
             decided: self.decided.map(|row| row.map(|least| factor * least)),
             disregarded: self.disregarded.map(|least| factor * least),
+            balanced: self.balanced.map(|least| factor * least),
         }
     }
 }
@@ -40,5 +43,12 @@ pub fn require(tally: &mut Tally, comparisons: &Comparisons, least: &Least) {
         println!("  {name}: {met}");
         let what = format!("same in spite of another {name}");
         tally.require_often(met, least.disregarded[place], &what);
+    }
+    println!("not the same in spite of one:");
+    for (place, name) in BALANCED.iter().enumerate() {
+        let met = comparisons.balanced(place);
+        println!("  {name}: {met}");
+        let what = format!("not the same in spite of one {name}");
+        tally.require_often(met, least.balanced[place], &what);
     }
 }

@@ -27,18 +27,19 @@ const LEAST: Least = Least {
     ],
     comparisons: comparisons::Least {
         decided: [
-            [25, 25, 25],  // domain
-            [110, 60, 8],  // authority
-            [75, 50, 6],   // first tick
-            [80, 28, 10],  // last tick
-            [130, 80, 10], // use limit
-            [75, 35, 8],   // creation limit
-            [70, 30, 12],  // hop limit
-            [80, 30, 30],  // hours
-            [80, 40, 38],  // places
-            [90, 40, 45],  // devices
+            [28, 28, 28],   // domain
+            [140, 85, 9],   // authority
+            [90, 55, 2],    // first tick
+            [105, 20, 40],  // last tick
+            [165, 100, 12], // use limit
+            [105, 35, 9],   // creation limit
+            [70, 36, 4],    // hop limit
+            [85, 41, 32],   // hours
+            [85, 34, 44],   // places
+            [110, 50, 49],  // devices
         ],
-        disregarded: [480, 500, 22, 220, 140, 600, 340, 450, 400, 120],
+        disregarded: [580, 580, 13, 260, 180, 720, 340, 520, 400, 120],
+        balanced: [25, 20, 28],
     },
 };
 

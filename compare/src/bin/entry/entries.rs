@@ -41,17 +41,18 @@ const LEAST: Least = Least {
     comparisons: comparisons::Least {
         decided: [
             [12, 12, 12], // domain
-            [30, 14, 3],  // authority
-            [22, 13, 3],  // first tick
-            [18, 7, 4],   // last tick
-            [30, 20, 3],  // use limit
-            [24, 8, 4],   // creation limit
-            [26, 12, 7],  // hop limit
-            [21, 10, 8],  // hours
-            [19, 7, 9],   // places
-            [20, 12, 6],  // devices
+            [43, 20, 6],  // authority
+            [23, 17, 2],  // first tick
+            [20, 7, 4],   // last tick
+            [37, 23, 3],  // use limit
+            [26, 11, 5],  // creation limit
+            [22, 12, 5],  // hop limit
+            [20, 7, 7],   // hours
+            [19, 7, 8],   // places
+            [32, 14, 17], // devices
         ],
-        disregarded: [130, 120, 5, 40, 45, 150, 100, 110, 110, 24],
+        disregarded: [185, 175, 9, 55, 55, 200, 140, 155, 145, 24],
+        balanced: [4, 3, 6],
     },
 };
 

@@ -42,18 +42,19 @@ const LEAST: Least = Least {
     ],
     comparisons: comparisons::Least {
         decided: [
-            [35, 35, 35],  // domain
-            [130, 50, 8],  // authority
-            [100, 60, 8],  // first tick
-            [100, 32, 12], // last tick
-            [140, 75, 15], // use limit
-            [110, 50, 15], // creation limit
-            [105, 55, 12], // hop limit
-            [125, 50, 40], // hours
-            [125, 48, 60], // places
-            [110, 50, 48], // devices
+            [50, 50, 50],   // domain
+            [145, 50, 16],  // authority
+            [135, 80, 12],  // first tick
+            [130, 50, 16],  // last tick
+            [190, 130, 11], // use limit
+            [115, 48, 15],  // creation limit
+            [140, 85, 15],  // hop limit
+            [135, 29, 60],  // hours
+            [150, 70, 55],  // places
+            [125, 55, 40],  // devices
         ],
-        disregarded: [700, 650, 25, 300, 200, 800, 500, 600, 480, 170],
+        disregarded: [900, 840, 55, 440, 260, 1060, 640, 780, 700, 200],
+        balanced: [40, 38, 55],
     },
 };
 
