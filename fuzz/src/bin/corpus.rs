@@ -10,7 +10,7 @@ use std::path::Path;
 use std::{env, fs, io};
 
 /// Lines that make the small register.
-const LINES: usize = 120;
+const LINES: usize = 150;
 const DAMAGED: usize = 10;
 const MALFORMED: [&str; 12] = [
     "",
