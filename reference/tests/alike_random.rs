@@ -1,9 +1,9 @@
-//! Same over random registers (§6.17.2): it divides the capabilities into kinds,
+//! Same over random registers (§6.17.2 to §6.17.6): it divides the capabilities into kinds,
 //! and two of one kind are of the same use to whoever holds both.
 
 mod common;
 
-use common::expect;
+use common::{expect, perform};
 use reference::generate::{self, Profile};
 use reference::random::Random;
 use reference::register::has;
@@ -137,19 +137,20 @@ fn with_sessions(register: &Register, user: u8, pair: [u8; 2]) -> Option<Registe
     Some(register)
 }
 
-/// Every check on session 0 is answered as on session 1. How many are yes?
-fn yes_on_both(register: &Register) -> u32 {
+/// What every check on the session is answered.
+fn answers(register: &Register, session: u64) -> Vec<u64> {
     let mut copy = register.clone();
-    let mut check = |session, permission| {
+    let mut check = |permission| {
         apply_trusted(&mut copy, &Request::Check { session, permission }).expect("an open session")
     };
-    let mut yes = 0;
-    for permission in 0..32 {
-        let answers = [check(0, permission), check(1, permission)];
-        assert_eq!(answers[0], answers[1], "{permission}");
-        yes += answers[0] as u32;
-    }
-    yes
+    (0..32).map(&mut check).collect()
+}
+
+/// Every check on session 0 is answered as on session 1. How many are yes?
+fn yes_on_both(register: &Register) -> u32 {
+    let first = answers(register, 0);
+    assert_eq!(first, answers(register, 1));
+    first.iter().sum::<u64>() as u32
 }
 
 /// Now, and at each later tick of these: those around the ends of the life, the
@@ -171,29 +172,96 @@ fn assert_same_checks(random: &mut Random, register: &Register, number: u8) -> u
     yes
 }
 
+/// Two that are the same, neither revoked, and one who holds both: such pairs of
+/// the first so many capabilities.
+fn kept_pairs(random: &mut Random, register: &Register, most: usize) -> Vec<([u8; 2], u8)> {
+    let rows = all_pairs(register, most);
+    let places = (0..rows.len()).flat_map(|second| (0..second).map(move |first| (first, second)));
+    let mut pairs = Vec::new();
+    for (first, second) in places.filter(|&(first, second)| rows[first][second]) {
+        let pair = [first as u8, second as u8];
+        let [one, other] = pair.map(|number| *register.capability(number));
+        let user = random.bit(one.holders & other.holders);
+        if let Some(user) = user.filter(|_| !one.revoked && !other.revoked) {
+            pairs.push((pair, user as u8));
+        }
+    }
+    pairs
+}
+
 /// Of two that are the same, neither revoked, whoever holds both is told the
-/// same in two sessions, now and after any accepted clock.
+/// same in two sessions, now and after any accepted clock (§6.17.5).
 #[test]
 fn checks_on_the_same_are_answered_alike() {
     let mut random = Random::new(82);
     let (mut pairs, mut yes) = (0, 0);
     for _ in 0..800 {
         let register = any_register(&mut random);
-        let rows = all_pairs(&register, 100);
-        let places =
-            (0..rows.len()).flat_map(|second| (0..second).map(move |first| (first, second)));
-        for (first, second) in places.filter(|&(first, second)| rows[first][second]) {
-            let pair = [first as u8, second as u8];
-            let [one, other] = pair.map(|number| *register.capability(number));
-            let user = random.bit(one.holders & other.holders);
-            let kept = user.filter(|_| !one.revoked && !other.revoked);
-            if let Some(opened) = kept.and_then(|user| with_sessions(&register, user as u8, pair)) {
+        for (pair, user) in kept_pairs(&mut random, &register, 100) {
+            if let Some(opened) = with_sessions(&register, user, pair) {
                 pairs += 1;
                 yes += assert_same_checks(&mut random, &opened, pair[0]);
             }
         }
     }
     assert!(pairs >= 300 && yes >= 2_000, "{pairs}, {yes}");
+}
+
+/// With uses left of both, an opening of the one is answered as one of the
+/// other (§6.17.5).
+#[test]
+fn openings_of_the_same_are_answered_alike() {
+    let mut random = Random::new(84);
+    let (mut accepted, mut refused) = (0, 0);
+    for _ in 0..400 {
+        let register = any_register(&mut random);
+        for (pair, user) in kept_pairs(&mut random, &register, 100) {
+            let left = |number: u8| {
+                let capability = register.capability(number);
+                capability.uses < capability.use_limit
+            };
+            for _ in (0..8).filter(|_| pair.iter().all(|&number| left(number))) {
+                let [session, hour, place] = [66, 26, 17].map(|bound| random.below(bound));
+                let answers = pair.map(|number| {
+                    let line = format!("open {session} {user} pass {number} {hour} {place} 0");
+                    perform(&mut register.clone(), &line)
+                });
+                assert_eq!(answers[0], answers[1], "{pair:?}");
+                accepted += u32::from(answers[0].is_ok());
+                refused += u32::from(answers[0].is_err());
+            }
+        }
+    }
+    assert!(accepted >= 100 && refused >= 100, "{accepted}, {refused}");
+}
+
+/// If the one is revoked and the other is not below it, the session on the other
+/// is told what the session on the one was (§6.17.6).
+#[test]
+fn checks_stay_when_the_other_is_revoked() {
+    let mut random = Random::new(85);
+    let (mut apart, mut below, mut yes) = (0, 0, 0);
+    for _ in 0..400 {
+        let register = any_register(&mut random);
+        for (pair, user) in kept_pairs(&mut random, &register, 100) {
+            let Some(opened) = with_sessions(&register, user, pair) else { continue };
+            let (session, gone) = random.pick(&[(0, pair[1]), (1, pair[0])]);
+            let before = answers(&opened, 1 - session);
+            let mut after = opened.clone();
+            let creator = register.capability(gone).creator.into();
+            let revoke = Request::Revoke { user: creator, capability: gone.into() };
+            apply(&mut after, &revoke).expect("by its creator");
+            if register.is_below(pair[session as usize], gone) {
+                below += 1;
+                assert!(answers(&after, session).iter().all(|&answer| answer == 0));
+            } else {
+                apart += 1;
+                yes += before.iter().sum::<u64>();
+                assert_eq!(answers(&after, session), before, "{pair:?}");
+            }
+        }
+    }
+    assert!(apart >= 200 && below >= 20 && yes >= 100, "{apart}, {below}, {yes}");
 }
 
 /// Out of range before not there, whatever the register.
