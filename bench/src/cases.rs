@@ -26,7 +26,7 @@ impl Case {
     }
 }
 
-/// A read, two small changes, a creation and the revocation of both trees.
+/// Two reads, two small changes, a creation and the revocation of both trees.
 pub fn calls() -> Vec<Case> {
     let mut cases = vec![
         Case::new("fresh: check (refused, 3)", Register::fresh(), "check 0 4"),
@@ -42,6 +42,7 @@ pub fn calls() -> Vec<Case> {
 fn calls_on(name: &str, size: Size) -> Vec<Case> {
     let mut cases = vec![
         check(name, size),
+        same(name, size),
         open(name, size),
         hand(name, size),
     ];
@@ -52,6 +53,12 @@ fn calls_on(name: &str, size: Size) -> Vec<Case> {
 fn check(name: &str, size: Size) -> Case {
     let line = format!("check {} 4", size.sessions - 1);
     Case::new(&format!("{name}: check"), grown(size, Shape::Deep), &line)
+}
+
+/// The two deepest passes.
+fn same(name: &str, size: Size) -> Case {
+    let line = format!("same {} {}", size.passes - 2, size.passes - 1);
+    Case::new(&format!("{name}: same"), grown(size, Shape::Deep), &line)
 }
 
 /// A second holder of pass 100, or of the last one.
