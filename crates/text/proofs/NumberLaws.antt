@@ -87,7 +87,7 @@ pub number-none : (s : List ℕ) → length s ≡ 0 → numberIn s ≡ Wrong
 number-none [] h = refl
 number-none (b ∷ s) h = absurd (suc-ne-zero _ h)
 
-number-word : (s : List ℕ) → (length s ≡ 0 → ⊥) → numberIn s ≡ taken (length (firstWord (drop 1 s))) (numeral (firstWord (drop 1 s)))
+pub number-word : (s : List ℕ) → (length s ≡ 0 → ⊥) → numberIn s ≡ taken (length (firstWord (drop 1 s))) (numeral (firstWord (drop 1 s)))
 number-word [] h = absurd (h refl)
 number-word (b ∷ s) h = refl
 
@@ -207,7 +207,7 @@ pub prepend-nil : (o : Option (List ℕ)) → o ≡ prepend [] o
 prepend-nil none = refl
 prepend-nil (some rest) = refl
 
-numbers-first : (k : ℕ) (ws : List (List ℕ)) → numbers (suc k) ws ≡ withNumber ws (λ n rest. andThen (numbers k rest) (λ r. some (n ∷ r)))
+pub numbers-first : (k : ℕ) (ws : List (List ℕ)) → numbers (suc k) ws ≡ withNumber ws (λ n rest. andThen (numbers k rest) (λ r. some (n ∷ r)))
 numbers-first k [] = refl
 numbers-first k (w ∷ ws) = refl
 

@@ -22,7 +22,7 @@ within-fits n s h l = record { fits = omega arith }
 
 -- ---- before
 
-before-step : (b : ℕ) (s : List ℕ) (i : ℕ) → i < length s
+pub before-step : (b : ℕ) (s : List ℕ) (i : ℕ) → i < length s
     → before b (drop i s) ≡ cond (eqb (getD s i 0) b) [] (getD s i 0 ∷ before b (drop (i + 1) s))
 before-step b s i h = rw (add-one, drop-cons s i 0)
 

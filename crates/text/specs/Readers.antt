@@ -1,5 +1,6 @@
 -- Intermediate: the code's own terms, proved to come to the definitions of `model`.
 -- What each reader of a line's arguments answers, as the definitions of document 01 say it.
+use mathlib.Core.Path.{_≡_}
 use mathlib.Core.Bool.{cond}
 use mathlib.Core.List.{List, [], _∷_, _++_}
 use mathlib.Core.Option.{Option, none, some}
@@ -63,6 +64,15 @@ both s Wrong = NotBoth
 -- two numbers at the front of s, and the bytes that they take
 abbrev pub twoIn : List ℕ → TwoNumbers
 twoIn s = both s (numberIn s)
+
+-- a reader that reads only some numbers: what it reads is right
+abbrev pub Short : List ℕ → Number → Type 0
+Short s (Read v n) = Read v n ≡ numberIn s
+Short s Wrong = Unit {0}
+
+abbrev pub ShortTwo : List ℕ → TwoNumbers → Type 0
+ShortTwo s (Both a b n) = Both a b n ≡ twoIn s
+ShortTwo s NotBoth = Unit {0}
 
 -- the same as `withNumber` and `thenNumber`, for two
 abbrev pub withTwo : {A : Type 0} → List (List ℕ) → (ℕ → ℕ → List (List ℕ) → Option A) → Option A

@@ -2,3 +2,4 @@
 pub mod arguments;
 pub mod numbers;
 pub mod parts;
+pub mod short;
