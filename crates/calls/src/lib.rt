@@ -100,10 +100,13 @@ pub fn open(r: Register, session: u32, user: u32, on: Named, at: Context) -> Rep
     apply(r, Request::Local(LocalRequest::Open(session, user, on, at)))
 }
 
-pub fn check(r: Register, session: u32, permission: u32) -> Reply
-    ensures { λ q. ⌜ effectOf q ≡ step r (checkCall session permission) ⌝ }
+pub fn check(r: Register, session: u32, permission: u32, at: Context) -> Reply
+    ensures { λ q. ⌜ effectOf q ≡ step r (checkCall session permission at) ⌝ }
 {
-    apply(r, Request::Local(LocalRequest::Check(session, permission)))
+    apply(
+        r,
+        Request::Local(LocalRequest::Check(session, permission, at)),
+    )
 }
 
 pub fn amend(r: Register, user: u32, capability: u32, change: Change) -> Reply

@@ -43,7 +43,7 @@ role-stays v column (Allow user n mask) e = settle-role v _ _ _ refl
 role-stays v column (Lend user n mask) e = settle-role v _ _ _ refl
 role-stays v column (Hand user receiver n) e = settle-role v _ _ _ refl
 role-stays v column (Open s user on at) e = settle-role v _ _ _ refl
-role-stays v column (Check s permission) e = refl
+role-stays v column (Check s permission at) e = refl
 role-stays v column (Close s) e = settle-role v _ _ _ refl
 
 -- what was decided, put back

@@ -66,9 +66,9 @@ one-commit r column (Hand user receiver n) k h = hand-commit r _ user receiver n
 one-commit r column (Open s user on at) k h =
     let p : Places = placesIn r (namesOf (Open s user on at)) in
     open-commit r p s user at on refl (session-placed p on refl refl)
-one-commit r column (Check s permission) k h =
-    let p : Places = placesIn r (namesOf (Check s permission)) in
-    check-commit r p column s permission k h refl (on-placed p ((sessionAt (r .sessions) (s % 64)) .on) refl refl)
+one-commit r column (Check s permission at) k h =
+    let p : Places = placesIn r (namesOf (Check s permission at)) in
+    check-commit r p column s permission at k h refl (on-placed p ((sessionAt (r .sessions) (s % 64)) .on) refl refl)
 one-commit r column (Close s) k h = close-commit r _ s refl
 
 -- what was decided over the elements at the places of a request, and put back there

@@ -24,5 +24,5 @@ decideOf v column (Allow user capability permissions) = allowDecision v column u
 decideOf v column (Lend user capability roles) = lendDecision v column user capability roles
 decideOf v column (Hand user receiver capability) = handDecision v user receiver capability
 decideOf v column (Open session user on at) = openDecision v session user on at
-decideOf v column (Check session permission) = checkDecision v column session permission
+decideOf v column (Check session permission at) = checkDecision v column session permission at
 decideOf v column (Close session) = closeDecision v session

@@ -61,7 +61,9 @@ pub fn decide(v: Slots, columns: &[u32; 64], q: LocalRequest) -> Decision
         LocalRequest::Lend(user, number, mask) => decide_lend(v, columns, user, number, mask),
         LocalRequest::Hand(user, receiver, number) => decide_hand(v, user, receiver, number),
         LocalRequest::Open(session, user, on, at) => decide_open(v, session, user, on, at),
-        LocalRequest::Check(session, permission) => decide_check(v, columns, session, permission),
+        LocalRequest::Check(session, permission, at) => {
+            decide_check(v, columns, session, permission, at)
+        }
         LocalRequest::Close(session) => decide_close(v, session),
     }
 }

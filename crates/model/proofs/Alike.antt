@@ -33,7 +33,7 @@ use Rattle.model.proofs.Settling.{Settled, accepted, declined, passed, 
 use Rattle.model.proofs.Kept.{Kept}
 use Rattle.model.proofs.Rules.{kept→, kept←}
 use Rattle.model.proofs.Running.{step-cases, step-keeps}
-use Rattle.model.proofs.Checks.{opened-lt}
+use Rattle.model.proofs.Checks.{checked, check-open}
 use Rattle.model.proofs.ListTheorem.{list-theorem}
 
 -- ---- numbers compared place by place
@@ -150,19 +150,11 @@ domain-reached r n k h = ap (λ (j : ℕ). (role r j) .domain) (reaches-root (r 
 
 -- ---- checks
 
--- what a check of permission p in an open session comes to, by what it is permitted
-abbrev checked : ℕ → Bool → Outcome
-checked p permitted = verdict (2 unless (isPermission p ∷ []) ∷ []) (cond permitted 1 0)
-
 module _ (r : Register) where
-  check-serves : (s user n p : ℕ) → T (wellFormed r) → Serves r s user n → asked r (check s p) ≡ checked p (permits r (ofCapability n) user p)
-  unfolding ruling checkRuling
-  check-serves s user n p w h =
-      step-answer r (check s p) w
-      ∙ ap₂
-      (λ (a b : Bool). verdict (2 unless (a ∷ isPermission p ∷ []) ∷ 3 unless (b ∷ []) ∷ []) (cond (permits r ((sessionAt (r .sessions) s) .on) ((sessionAt (r .sessions) s) .user) p) 1 0))
-      (T→true (isSession s) (lt→ltb s 64 (opened-lt r (kept→ r w) s (h .active)))) (T→true (opened r s) (h .active))
-      ∙ ap₂ (λ (o : Origin) (u : ℕ). checked p (permits r o u p)) (h .on) (h .whose)
+  check-serves : (s user n p : ℕ) (at : Context) → T (wellFormed r) → Serves r s user n → asked r (check s p at) ≡ checked p at (permits r (ofCapability n) user p at)
+  check-serves s user n p at w h =
+      check-open r s p at (kept→ r w) (h .active)
+      ∙ ap₂ (λ (o : Origin) (u : ℕ). checked p at (permits r o u p at)) (h .on) (h .whose)
 
   -- of a capability that is held and not revoked, a check and an open read nothing else that may differ
   module _ (m n user : ℕ) (a : Agree r m n) (g : Held r user m) (h : Held r user n) where
@@ -172,9 +164,9 @@ module _ (r : Register) where
     marks-alike : (capability r m) .revoked ≡ (capability r n) .revoked
     marks-alike = T→false _ (g .unrevoked) ∙ sym (T→false _ (h .unrevoked))
 
-    permits-alike : (p : ℕ) → permits r (ofCapability m) user p ≡ permits r (ofCapability n) user p
-    unfolding permits terms
-    permits-alike p = let q = holders-alike in let v = marks-alike in cc
+    permits-alike : (p : ℕ) (at : Context) → permits r (ofCapability m) user p at ≡ permits r (ofCapability n) user p at
+    unfolding permits terms admitted
+    permits-alike p at = let q = holders-alike in let v = marks-alike in cc
 
     opens-alike : T (wellFormed r) → m < r .count → n < r .count → UsesLeft r m → UsesLeft r n
         → (s : ℕ) (at : Context) → asked r (opening s user (ofCapability m) at) ≡ asked r (opening s user (ofCapability n) at)
@@ -211,12 +203,12 @@ unchanged (refused i) (value w) h = absurd (h (λ e. value-refused (sym e)))
 
 module _ (m n s t user : ℕ) where
   checks-now : (r : Register) → Paired r m n s t user → ChecksAs r s r t
-  checks-now r q p =
+  checks-now r q p at =
       let w = step-formed r (same m n) (q .equal) in
       let agree = agree→ r m n (same-there r m n (q .equal) .2) in
-      check-serves r t user n p w (q .other)
-      ∙ ap (checked p) (sym (permits-alike r m n user agree (q .one .held) (q .other .held) p))
-      ∙ sym (check-serves r s user m p w (q .one))
+      check-serves r t user n p at w (q .other)
+      ∙ ap (checked p at) (sym (permits-alike r m n user agree (q .one .held) (q .other .held) p at))
+      ∙ sym (check-serves r s user m p at w (q .one))
 
   -- a clock call changes nothing that `Paired` speaks of
   clock-paired : (r : Register) (tick : ℕ) → Paired r m n s t user → Paired (next r (clock tick)) m n s t user
@@ -249,13 +241,13 @@ module _ (m n s t user : ℕ) where
   checks-given-up : (r : Register) → Paired r m n s t user → ¬ Descends (originAt (r .capabilities)) n m
       → (revoker v : ℕ) → asked r (revoke revoker m) ≡ value v → ChecksAs r s (next r (revoke revoker m)) t
   unfolding run derivedFrom derivedAfter
-  checks-given-up r q apart revoker v e p = sym (unchanged _ _ (λ d. not-due (changed .0 d .1))) ∙ checks-now r q p
+  checks-given-up r q apart revoker v e p at = sym (unchanged _ _ (λ d. not-due (changed .0 d .1))) ∙ checks-now r q p at
     where
       holds : Guarantee r (originAt (r .capabilities))
       holds = list-theorem r [] (step-formed r (same m n) (q .equal))
 
-      changed : ChangesCheck r (next r (revoke revoker m)) t p ↔ (Yes r t p × OnDue r (originAt (r .capabilities)) m t)
-      changed = (holds .exact-revoke revoker m v e) .checks t p
+      changed : ChangesCheck r (next r (revoke revoker m)) t p at ↔ (Yes r t p at × OnDue r (originAt (r .capabilities)) m t)
+      changed = (holds .exact-revoke revoker m v e) .checks t p at
 
       not-due : OnDue r (originAt (r .capabilities)) m t → ⊥
       not-due d =

@@ -127,7 +127,7 @@ call-fits r (hand user receiver n) w k = (
       omega (arith, (in-range r n k l) .hops),
 )
 call-fits r (opening s user o at) w k = (tt, λ g. lit≤ tt)
-call-fits r (check s p) w k = (tt, λ g. one-bit (permits r ((session r s) .on) ((session r s) .user) p))
+call-fits r (check s p at) w k = (tt, λ g. one-bit (permits r ((session r s) .on) ((session r s) .user) p at))
 call-fits r (amend user n (raise d)) w k = (
   tt,
   λ g.

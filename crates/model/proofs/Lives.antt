@@ -65,11 +65,11 @@ open-alive : (r : Register) (s user : ℕ) (o : Origin) (at : Context) (v : ℕ)
 unfolding ruling openRuling
 open-alive r s user o at v e = asked-life r o (passed 8 ((openRuling r s user o at) .guards) (step-value r (opening s user o at) e .0) .0)
 
-check-alive : (r : Register) (s p : ℕ) → Yes r s p → T (inLife (r .capabilities) ((sessionAt (r .sessions) s) .on) (r .clock))
+check-alive : (r : Register) (s p : ℕ) (at : Context) → Yes r s p at → T (inLife (r .capabilities) ((sessionAt (r .sessions) s) .on) (r .clock))
 unfolding ruling checkRuling permits
-check-alive r s p e =
+check-alive r s p at e =
     let x = sessionAt (r .sessions) s in
-    asked-life r (x .on) (each→ (permitTests r (x .on) (x .user) p) (one-yes (permits r (x .on) (x .user) p) (ap value (step-value r (check s p) e .1))) .1 .1 .0)
+    asked-life r (x .on) (each→ (permitTests r (x .on) (x .user) p at) (one-yes (permits r (x .on) (x .user) p at) (ap value (step-value r (check s p at) e .1))) .1 .1 .0)
 
 pub life-laws : LifeLaws
 life-laws =

@@ -35,9 +35,9 @@ close-keeps r s k g =
       sessions = session-set (r .enrolled) (r .roles) (r .count) (r .capabilities) (r .sessions) s blankSession (ltb→lt _ _ (passed 2 ((closeRuling r s) .guards) g .0)) (k .sessions) tt;
     }
 
-pub check-keeps : (r : Register) (s p : ℕ) → Kept r → Clear ((checkRuling r s p) .guards) → Kept ((checkRuling r s p) .after)
+pub check-keeps : (r : Register) (s p : ℕ) (at : Context) → Kept r → Clear ((checkRuling r s p at) .guards) → Kept ((checkRuling r s p at) .after)
 unfolding checkRuling
-check-keeps r s p k g = k
+check-keeps r s p at k g = k
 
 used-keeps : (r : Register) (o : Origin) → Kept r → T (exists (r .roles) (r .count) o) → T (mayUse (partyOf r o)) → Kept (withCapabilities r (used (r .capabilities) o))
 unfolding exists terms authority

@@ -8,6 +8,7 @@ use native.Mathlib.Nat.{add-zero}
 use native.Mathlib.Numerals.{add-one}
 use native.Mathlib.Omega.{arith}
 use lib.Dec.{T, T-not, not-T, ltb→lt}
+use lib.ListN.{drop}
 use Rattle.masks.specs.Masks.{has}
 use Rattle.masks.specs.Tests.{each, countBelow, mapFrom}
 use Rattle.masks.proofs.Truth.{and-l, and-r, and-i, or-l, or-r, or-cases, T→true, T→false, true→T}
@@ -15,7 +16,8 @@ use Rattle.model.specs.declared.Origin.{Origin}
 use Rattle.model.specs.declared.Origin.the-variants.{Role as ofRole, Capability as ofCapability}
 use Rattle.model.specs.declared.Capability.{Capability}
 use Rattle.model.specs.declared.Register.{Register}
-use Rattle.model.specs.State.{theCapability, capabilityTerms, terms, authority, sessionAt, inLife, exists}
+use Rattle.model.specs.declared.Context.{Context}
+use Rattle.model.specs.State.{theCapability, capabilityTerms, terms, authority, sessionAt, exists, admitted}
 use Rattle.model.specs.Lineage.{Descends, here, inLineage}
 use Rattle.model.specs.Setters.{withRevoked, withCapabilities}
 use Rattle.model.specs.Rulings.{value, refused, Effect, Guard, capability, Clear, verdict}
@@ -116,27 +118,28 @@ module _ (r : Register) (derived : ℕ → Origin) (k : Kept r) (shows : Shows r
         ))
 
     -- on a role nothing changes; on a capability, the yes of those that descend from n
-    same-role : (j user p : ℕ) → permits revoked (ofRole j) user p ≡ permits r (ofRole j) user p
+    same-role : (j user p : ℕ) (at : Context) → permits revoked (ofRole j) user p at ≡ permits r (ofRole j) user p at
     unfolding permits terms
-    same-role j user p = refl
+    same-role j user p at = refl
 
-    cut-yes : (i user p : ℕ) → i < r .count → permits revoked (ofCapability i) user p ≡ (permits r (ofCapability i) user p && not (inLineage (r .capabilities) n i))
-    unfolding permits terms authority
-    cut-yes i user p l =
-        ap
-        (λ (c : Capability). each (permitting (r .clock) (theCapability i c) (capabilityTerms (r .roles) c) user p))
-        (mark-at i l)
-        ∙ without (has ((capability r i) .holders) user) ((capability r i) .revoked) (inLineage (r .capabilities) n i) (inLife (r .capabilities) (ofCapability i) (r .clock)) (has (authority (r .roles) (capability r i)) p)
+    cut-yes : (i user p : ℕ) (at : Context) → i < r .count
+        → permits revoked (ofCapability i) user p at ≡ (permits r (ofCapability i) user p at && not (inLineage (r .capabilities) n i))
+    unfolding permits terms authority admitted
+    cut-yes i user p at l =
+        ap (λ (c : Capability). each (asks c)) (mark-at i l)
+        ∙ without (has ((capability r i) .holders) user) ((capability r i) .revoked) (inLineage (r .capabilities) n i) (each (drop 2 (asks (capability r i))))
       where
-        without : (a x y c d : Bool) → (a && (not (x || y) && (c && (d && true)))) ≡ ((a && (not x && (c && (d && true)))) && not y)
-        without false x y c d = refl
-        without true true y c d = refl
-        without true false true false d = refl
-        without true false true true false = refl
-        without true false true true true = refl
-        without true false false false d = refl
-        without true false false true false = refl
-        without true false false true true = refl
+        asks : Capability → List Bool
+        asks c = permitting (r .clock) (theCapability i c) (capabilityTerms (r .roles) c) user p at
+
+        -- z is what a check asks that no mark touches
+        without : (a x y z : Bool) → (a && (not (x || y) && z)) ≡ ((a && (not x && z)) && not y)
+        without false x y z = refl
+        without true true y z = refl
+        without true false true false = refl
+        without true false true true = refl
+        without true false false false = refl
+        without true false false true = refl
 
     revoked-kept : Kept revoked
     revoked-kept =
@@ -144,27 +147,27 @@ module _ (r : Register) (derived : ℕ → Origin) (k : Kept r) (shows : Shows r
         (revoke-frames (r .enrolled) (r .roles) (r .count) (r .capabilities) (k .capabilities) n n-there)
         (revoke-capabilities (r .enrolled) (r .roles) (r .count) (r .capabilities) (k .capabilities) n n-there)
 
-    -- the check s p, by what its session is on
-    module _ (s p : ℕ) where
+    -- the check of s and p in a context, by what its session is on
+    module _ (s p : ℕ) (at : Context) where
       Changed : Type 0
-      Changed = ChangesCheck r revoked s p
+      Changed = ChangesCheck r revoked s p at
 
       Lost : Type 0
-      Lost = Yes r s p × OnDue r derived n s
+      Lost = Yes r s p at × OnDue r derived n s
 
       -- where both are answered
       lost : (o : Origin) → (sessionAt (r .sessions) s) .on ≡ o → T (exists (r .roles) (r .count) o)
-          → asked r (check s p) ≡ value (cond (permits r o ((sessionAt (r .sessions) s) .user) p) 1 0)
-          → asked revoked (check s p) ≡ value (cond (permits revoked o ((sessionAt (r .sessions) s) .user) p) 1 0)
+          → asked r (check s p at) ≡ value (cond (permits r o ((sessionAt (r .sessions) s) .user) p at) 1 0)
+          → asked revoked (check s p at) ≡ value (cond (permits revoked o ((sessionAt (r .sessions) s) .user) p at) 1 0)
           → Changed ↔ Lost
       unfolding Changed Lost exists
       lost (ofRole j) e l a b = (
-        (λ h. absurd (h (a ∙ ap (λ (x : Bool). value (cond x 1 0)) (sym (same-role j _ p)) ∙ sym b))),
+        (λ h. absurd (h (a ∙ ap (λ (x : Bool). value (cond x 1 0)) (sym (same-role j _ p at)) ∙ sym b))),
         (λ q. let z : _≡_ {A = ℕ} 0 1 = cc (e, q .1 .1) in absurd (omega arith)),
       )
       lost (ofCapability i) e l a b = (
-        (λ h. gone h (permits r (ofCapability i) u p) refl (inLineage (r .capabilities) n i) refl),
-        (λ q h. kept-no (one-yes (permits r (ofCapability i) u p) (sym a ∙ q .0)) (on← i i-there (subst (λ (x : ℕ). Descends derived x n) (same-capability (q .1 .0) (q .1 .1)) (q .1 .2 .descends))) h),
+        (λ h. gone h (permits r (ofCapability i) u p at) refl (inLineage (r .capabilities) n i) refl),
+        (λ q h. kept-no (one-yes (permits r (ofCapability i) u p at) (sym a ∙ q .0)) (on← i i-there (subst (λ (x : ℕ). Descends derived x n) (same-capability (q .1 .0) (q .1 .1)) (q .1 .2 .descends))) h),
       )
         where
           u : ℕ
@@ -176,42 +179,42 @@ module _ (r : Register) (derived : ℕ → Origin) (k : Kept r) (shows : Shows r
           same-capability : (j : ℕ) → (sessionAt (r .sessions) s) .on ≡ ofCapability j → j ≡ i
           same-capability j f = cc
 
-          after : (x y : Bool) → permits r (ofCapability i) u p ≡ x → inLineage (r .capabilities) n i ≡ y → asked revoked (check s p) ≡ value (cond (x && not y) 1 0)
+          after : (x y : Bool) → permits r (ofCapability i) u p at ≡ x → inLineage (r .capabilities) n i ≡ y → asked revoked (check s p at) ≡ value (cond (x && not y) 1 0)
           after x y f g =
-              b ∙ ap (λ (z : Bool). value (cond z 1 0)) (cut-yes i u p i-there)
+              b ∙ ap (λ (z : Bool). value (cond z 1 0)) (cut-yes i u p at i-there)
               ∙ ap₂ (λ (c d : Bool). value (cond (c && not d) 1 0)) f g
 
-          gone : Changed → (x : Bool) → permits r (ofCapability i) u p ≡ x → (y : Bool) → inLineage (r .capabilities) n i ≡ y → Lost
+          gone : Changed → (x : Bool) → permits r (ofCapability i) u p at ≡ x → (y : Bool) → inLineage (r .capabilities) n i ≡ y → Lost
           gone h false f y g = absurd (h (a ∙ ap (λ (z : Bool). value (cond z 1 0)) f ∙ sym (after false y f g)))
           gone h true f false g = absurd (h (a ∙ ap (λ (z : Bool). value (cond z 1 0)) f ∙ sym (after true false f g)))
           gone h true f true g = (
             a ∙ ap (λ (z : Bool). value (cond z 1 0)) f,
-            (i, e, record { unmarked = (permits-entitled r derived k shows i u p i-there (true→T _ f)) .lineage i here .unrevoked; descends = on→ i i-there (true→T _ g) }),
+            (i, e, record { unmarked = (permits-entitled r derived k shows i u p at i-there (true→T _ f)) .lineage i here .unrevoked; descends = on→ i i-there (true→T _ g) }),
           )
 
-          kept-no : T (permits r (ofCapability i) u p) → T (inLineage (r .capabilities) n i) → asked r (check s p) ≡ asked revoked (check s p) → ⊥
+          kept-no : T (permits r (ofCapability i) u p at) → T (inLineage (r .capabilities) n i) → asked r (check s p at) ≡ asked revoked (check s p at) → ⊥
           kept-no f g h =
-              let x : asked revoked (check s p) ≡ value 0 = after true true (T→true (permits r (ofCapability i) u p) f) (T→true (inLineage (r .capabilities) n i) g) in
-              let y : asked r (check s p) ≡ value 1 = a ∙ ap (λ (z : Bool). value (cond z 1 0)) (T→true (permits r (ofCapability i) u p) f) in
+              let x : asked revoked (check s p at) ≡ value 0 = after true true (T→true (permits r (ofCapability i) u p at) f) (T→true (inLineage (r .capabilities) n i) g) in
+              let y : asked r (check s p at) ≡ value 1 = a ∙ ap (λ (z : Bool). value (cond z 1 0)) (T→true (permits r (ofCapability i) u p at) f) in
               let z : _≡_ {A = ℕ} 0 1 = cc in
               omega arith
 
       checks-hold : Changed ↔ Lost
       unfolding Changed Lost ruling checkRuling
       checks-hold =
-          settled-one (verdict-cases ((checkRuling r s p) .guards)) (step-answer r (check s p) (kept← r k)) (step-answer revoked (check s p) (kept← revoked revoked-kept))
+          settled-one (verdict-cases ((checkRuling r s p at) .guards)) (step-answer r (check s p at) (kept← r k)) (step-answer revoked (check s p at) (kept← revoked revoked-kept))
         where
           rs : List Guard
-          rs = (checkRuling r s p) .guards
+          rs = (checkRuling r s p at) .guards
 
           v1 : ℕ
-          v1 = cond (permits r ((sessionAt (r .sessions) s) .on) ((sessionAt (r .sessions) s) .user) p) 1 0
+          v1 = cond (permits r ((sessionAt (r .sessions) s) .on) ((sessionAt (r .sessions) s) .user) p at) 1 0
 
           v2 : ℕ
-          v2 = cond (permits revoked ((sessionAt (r .sessions) s) .on) ((sessionAt (r .sessions) s) .user) p) 1 0
+          v2 = cond (permits revoked ((sessionAt (r .sessions) s) .on) ((sessionAt (r .sessions) s) .user) p at) 1 0
 
           settled-one : (Clear rs × ((v : ℕ) → verdict rs v ≡ value v)) ⊎ ((m : ℕ) × ((v : ℕ) → verdict rs v ≡ refused m))
-              → asked r (check s p) ≡ verdict rs v1 → asked revoked (check s p) ≡ verdict rs v2 → Changed ↔ Lost
+              → asked r (check s p at) ≡ verdict rs v1 → asked revoked (check s p at) ≡ verdict rs v2 → Changed ↔ Lost
           settled-one (inl c) a b =
               lost ((sessionAt (r .sessions) s) .on) refl (session-on r derived k shows s (c .0 .1 .0 .0)) (a ∙ c .1 v1) (b ∙ c .1 v2)
           settled-one (inr m) a b = (

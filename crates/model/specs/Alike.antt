@@ -53,9 +53,10 @@ pub record Paired (r : Register) (m n s t user : ℕ) : Type 0 where
   pub one : Serves r s user m
   pub other : Serves r t user n
 
--- every check of session t in r′ is answered as it is of session s in r; what a check names beside its session stands here alone
+-- every check of session t in r′, in any context, is answered as it is of session s in r; what a check names beside its session
+-- stands here alone
 abbrev pub ChecksAs : (r : Register) (s : ℕ) (r′ : Register) (t : ℕ) → Type 0
-ChecksAs r s r′ t = (p : ℕ) → asked r′ (check t p) ≡ asked r (check s p)
+ChecksAs r s r′ t = (p : ℕ) (at : Context) → asked r′ (check t p at) ≡ asked r (check s p at)
 
 -- capability n has a use left
 abbrev pub UsesLeft : Register → ℕ → Type 0

@@ -27,7 +27,7 @@ pub data Call : Type 0 where
   lend : (user capability roles : ℕ) → Call
   hand : (user receiver capability : ℕ) → Call
   opening : (session user : ℕ) (on : Origin) (at : Context) → Call
-  check : (session permission : ℕ) → Call
+  check : (session permission : ℕ) (at : Context) → Call
   amend : (user capability : ℕ) (change : Change) → Call
   revoke : (user capability : ℕ) → Call
   close : (session : ℕ) → Call
@@ -46,7 +46,7 @@ ruling r (allow user n mask) = allowRuling r user n mask
 ruling r (lend user n mask) = lendRuling r user n mask
 ruling r (hand user receiver n) = handRuling r user receiver n
 ruling r (opening s user o at) = openRuling r s user o at
-ruling r (check s p) = checkRuling r s p
+ruling r (check s p at) = checkRuling r s p at
 ruling r (amend user n change) = amendRuling r user n change
 ruling r (revoke user n) = revokeRuling r user n
 ruling r (close s) = closeRuling r s

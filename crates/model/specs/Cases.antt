@@ -14,7 +14,7 @@ use Rattle.model.specs.Administration.{newRole, appointing}
 use Rattle.model.specs.Delegation.{giving}
 use Rattle.model.specs.Revocation.{raise, lower}
 use Rattle.model.specs.Calls.{Call, enrol, found, grant, withdraw, appoint, dismiss, clock, create, allow, lend, hand, opening, check, amend, revoke, close, same}
-use Rattle.model.specs.Edges.{Exchange, _gets_, Answered, plan, create-3, open-0, staffed, issued, held}
+use Rattle.model.specs.Edges.{Exchange, _gets_, Answered, plan, create-3, open-0, check-9, staffed, issued, held}
 
 -- a user creates, or opens a session, in the context 9 0 0; the new capability has the limits 9
 abbrev create-by : (user : ℕ) → Origin → Call
@@ -134,21 +134,21 @@ pub record CallCases : Type 0 where
       ∷ appoint 4 1 gets value 0
       ∷ open-by 5 4 (ofRole 1) gets value 0
       ∷ open-by 6 3 (ofRole 1) gets value 0
-      ∷ check 5 4 gets value 1
-      ∷ check 5 7 gets value 0
+      ∷ check-9 5 4 gets value 1
+      ∷ check-9 5 7 gets value 0
       ∷ dismiss 4 1 gets value 0
-      ∷ check 5 4 gets value 0
-      ∷ check 6 4 gets value 1
+      ∷ check-9 5 4 gets value 0
+      ∷ check-9 6 4 gets value 1
       ∷ open-by 7 4 (ofRole 1) gets refused 6
       ∷ dismiss 4 1 gets refused 4
       ∷ appoint 4 1 gets value 0
-      ∷ check 5 4 gets value 1
+      ∷ check-9 5 4 gets value 1
       ∷ []))
   -- what a dismissed creator made stays, and stays hers to lend, hold and create from
   pub creator-dismissed : Answered (held
       ++ (open-0 5 9 gets value 0
       ∷ dismiss 3 1 gets value 0
-      ∷ check 5 4 gets value 1
+      ∷ check-9 5 4 gets value 1
       ∷ lend 3 0 2 gets value 17
       ∷ create-by 3 (ofRole 1) gets refused 6
       ∷ create-by 3 (ofCapability 0) gets value 1
@@ -158,14 +158,14 @@ pub record CallCases : Type 0 where
       ++ (open-0 5 9 gets value 0
       ∷ open-0 6 9 gets value 0
       ∷ close 5 gets value 0
-      ∷ check 5 4 gets refused 3
+      ∷ check-9 5 4 gets refused 3
       ∷ close 5 gets refused 3
-      ∷ check 6 4 gets value 1
+      ∷ check-9 6 4 gets value 1
       ∷ open-0 6 9 gets refused 4
       ∷ open-0 5 9 gets refused 10
       ∷ amend 3 0 (raise 1) gets value 3
       ∷ open-0 5 9 gets value 0
-      ∷ check 5 4 gets value 1
+      ∷ check-9 5 4 gets value 1
       ∷ []))
   -- same asks for one domain: all authorities are equal, 0 and its child 2 end in a role of domain 0, 1 in one of domain 1
   pub same-domain : Answered (two-domains
@@ -265,7 +265,7 @@ pub record CallCases : Type 0 where
       ∷ lend 63 0 2147483648 gets value 2147483649
       ∷ hand 63 63 0 gets value 1
       ∷ opening 63 63 (ofCapability 0) (contextOf 23 15 15) gets value 0
-      ∷ check 63 31 gets value 1
+      ∷ check 63 31 (contextOf 23 15 15) gets value 1
       ∷ amend 63 0 (lower 65535) gets value 0
       ∷ amend 63 0 (raise 65535) gets value 65535
       ∷ amend 63 0 (raise 1) gets refused 11
@@ -283,12 +283,12 @@ pub record CallCases : Type 0 where
       ∷ clock 99 gets value 0
       ∷ open-by 5 3 (ofCapability 0) gets value 0
       ∷ open-by 6 3 (ofCapability 1) gets refused 8
-      ∷ check 5 4 gets value 1
+      ∷ check-9 5 4 gets value 1
       ∷ clock 100 gets value 0
       ∷ open-by 6 3 (ofCapability 0) gets refused 8
       ∷ open-by 6 3 (ofCapability 1) gets value 0
-      ∷ check 5 4 gets value 0
-      ∷ check 6 4 gets value 1
+      ∷ check-9 5 4 gets value 0
+      ∷ check-9 6 4 gets value 1
       ∷ []))
   -- at the last of all ticks a capability that ends there opens, creates and permits nothing; its role does all three
   pub last-of-ticks : Answered (staffed
@@ -298,13 +298,13 @@ pub record CallCases : Type 0 where
       ∷ clock 4294967294 gets value 0
       ∷ open-by 5 3 (ofCapability 0) gets value 0
       ∷ open-by 6 3 (ofRole 1) gets value 0
-      ∷ check 5 4 gets value 1
+      ∷ check-9 5 4 gets value 1
       ∷ create-by 3 (ofCapability 0) gets value 1
       ∷ clock 4294967295 gets value 0
-      ∷ check 5 4 gets value 0
+      ∷ check-9 5 4 gets value 0
       ∷ open-by 7 3 (ofCapability 0) gets refused 8
       ∷ create-by 3 (ofCapability 0) gets refused 8
-      ∷ check 6 4 gets value 1
+      ∷ check-9 6 4 gets value 1
       ∷ open-by 7 3 (ofRole 1) gets value 0
       ∷ create-by 3 (ofRole 1) gets value 2
       ∷ []))

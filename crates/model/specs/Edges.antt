@@ -43,6 +43,10 @@ create-3 o uses creations hops = create 3 o (contextOf 9 0 0) (plan uses creatio
 abbrev pub open-0 : (session hour : ℕ) → Call
 open-0 session hour = opening session 3 (ofCapability 0) (contextOf hour 0 0)
 
+-- a check at hour 9, place 0 and device 0
+abbrev pub check-9 : (session permission : ℕ) → Call
+check-9 session permission = check session permission (contextOf 9 0 0)
+
 -- a role with create and permission 4, and user 3 appointed to it
 abbrev pub staffed : List Exchange
 staffed =
@@ -141,9 +145,9 @@ pub record Edges : Type 0 where
       ++ (lend 3 0 2 gets value 17
       ∷ withdraw 1 4 gets value 0
       ∷ open-0 5 9 gets value 0
-      ∷ check 5 4 gets value 0
+      ∷ check-9 5 4 gets value 0
       ∷ grant 1 4 gets value 0
-      ∷ check 5 4 gets value 1
+      ∷ check-9 5 4 gets value 1
       ∷ []))
   -- "counting a refused opening as a use": limit 2, refused openings between two accepted ones
   pub use-counted : Answered (issued

@@ -154,7 +154,7 @@ pub record EntryCases : Type 0 where
   -- an image without bytes is a new client's, with the same room and the same refusals; one zero byte is none
   pub new-client : entry [] (line "enrol 3 2") 29 ≡ done 0 enrolled-3
   pub new-client-room : entry [] (line "enrol 3 2") 28 ≡ declined 16
-  pub new-client-own : entry [] (line "check 0 0") 99 ≡ declined 3
+  pub new-client-own : entry [] (line "check 0 0 0 0 0") 99 ≡ declined 3
   pub new-client-line : entry [] [] 0 ≡ declined 1
   pub one-byte : entry (0 ∷ []) (line "enrol 3 2") 29 ≡ declined 14
   -- the line has its line feed
@@ -166,6 +166,6 @@ pub record EntryCases : Type 0 where
   -- refused, the buffer stays
   pub untouched : bufferAfter (on-fresh (line "enrol 3 2") 28) (replicate 28 7) ≡ replicate 28 7
   -- accepted, the value is returned: user 10 of session 14 has permission 9
-  pub positive : returned (entry image (line "check 14 9") 151) ≡ pos 1
+  pub positive : returned (entry image (line "check 14 9 20 9 3") 151) ≡ pos 1
   -- accepted, the buffer has the image's length in 2 bytes, the image, and after it what it had
   pub filled : bufferAfter (on-fresh (line "enrol 3 2") 31) (replicate 31 7) ≡ (0 ∷ 27 ∷ []) ++ enrolled-3 ++ (7 ∷ 7 ∷ [])

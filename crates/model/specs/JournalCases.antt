@@ -45,7 +45,7 @@ readings =
     ∷ "hand 3 2 1" means hand 3 2 1
     ∷ "open 1 2 role 3 4 5 6" means opening 1 2 (ofRole 3) (contextOf 4 5 6)
     ∷ "open 1 2 pass 3 4 5 6" means opening 1 2 (ofCapability 3) (contextOf 4 5 6)
-    ∷ "check 2 1" means check 2 1
+    ∷ "check 1 2 3 4 5" means check 1 2 (contextOf 3 4 5)
     ∷ "amend 3 2 1" means amend 3 2 (raise 1)
     ∷ "amend 3 2 -1" means amend 3 2 (lower 1)
     ∷ "revoke 2 1" means revoke 2 1
@@ -116,6 +116,10 @@ pub record JournalCases : Type 0 where
       ∷ "enrol 3" prints "no 1"
       ∷ "enrol 3 0 0" prints "no 1"
       ∷ "Enrol 3 0" prints "no 1"
+      ∷ "check 5 4" prints "no 1"
+      ∷ "check 5 4 9 0" prints "no 1"
+      ∷ "check 5 4 9 0 0 0" prints "no 1"
+      ∷ "check 5 4 9 0 0" prints "no 3"
       ∷ "save 26" prints "no 1"
       ∷ "load" prints "no 1"
       ∷ "enrol 3 0" prints "ok 0"

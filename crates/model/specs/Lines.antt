@@ -65,10 +65,11 @@ numbers (suc k) (w ∷ ws) = andThen (numeral w) (λ n. andThen (numbers k ws) (
 abbrev pub nth : List ℕ → ℕ → ℕ
 nth v i = getD v i 0
 
--- "its number, hour place device, first last, use creation hop limits, hours places devices"
-abbrev pub contextIn : List ℕ → Context
-contextIn v = contextOf (nth v 1) (nth v 2) (nth v 3)
+-- an hour, a place and a device, from number i of those read on
+abbrev pub contextIn : (i : ℕ) → List ℕ → Context
+contextIn i v = contextOf (nth v i) (nth v (suc i)) (nth v (suc (suc i)))
 
+-- "its number, hour place device, first last, use creation hop limits, hours places devices"
 abbrev pub planIn : List ℕ → Plan
 planIn v = planOf (nth v 4) (nth v 5) (nth v 6) (nth v 7) (nth v 8) (nth v 9) (nth v 10) (nth v 11)
 
@@ -87,7 +88,7 @@ createIn (user ∷ []) = none
 createIn (user ∷ kind ∷ rest) =
     andThen (numeral user) (λ u.
     andThen (numbers 12 rest) (λ v.
-    andThen (originIn kind (nth v 0)) (λ o. some (create u o (contextIn v) (planIn v)))))
+    andThen (originIn kind (nth v 0)) (λ o. some (create u o (contextIn 1 v) (planIn v)))))
 
 -- "open session user, role or pass, number, hour place device"
 abbrev pub openIn : List (List ℕ) → Option Call
@@ -98,7 +99,7 @@ openIn (session ∷ user ∷ kind ∷ rest) =
     andThen (numeral session) (λ s.
     andThen (numeral user) (λ u.
     andThen (numbers 4 rest) (λ v.
-    andThen (originIn kind (nth v 0)) (λ o. some (opening s u o (contextIn v))))))
+    andThen (originIn kind (nth v 0)) (λ o. some (opening s u o (contextIn 1 v))))))
 
 -- "amend user pass change"
 abbrev pub amendIn : List (List ℕ) → Option Call
@@ -133,7 +134,7 @@ forms =
     ∷ form "lend" (ofNumbers 3 (λ v. lend (nth v 0) (nth v 1) (nth v 2)))
     ∷ form "hand" (ofNumbers 3 (λ v. hand (nth v 0) (nth v 1) (nth v 2)))
     ∷ form "open" openIn
-    ∷ form "check" (ofNumbers 2 (λ v. check (nth v 0) (nth v 1)))
+    ∷ form "check" (ofNumbers 5 (λ v. check (nth v 0) (nth v 1) (contextIn 2 v)))
     ∷ form "amend" amendIn
     ∷ form "revoke" (ofNumbers 2 (λ v. revoke (nth v 0) (nth v 1)))
     ∷ form "close" (ofNumbers 1 (λ v. close (nth v 0)))

@@ -23,9 +23,9 @@ listing =
     ∷ "allow 3 0 16"
     ∷ "hand 3 3 0"
     ∷ "open 5 3 pass 0 9 0 0"
-    ∷ "check 5 4"
+    ∷ "check 5 4 9 0 0"
     ∷ "revoke 3 0"
-    ∷ "check 5 4"
+    ∷ "check 5 4 9 0 0"
     ∷ [])
 
 pub record Listing : Type 0 where

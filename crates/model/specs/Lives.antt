@@ -46,4 +46,4 @@ pub record LifeLaws : Type 0 where
       → T (inLife (r .capabilities) o (r .clock))
   pub open-alive : (r : Register) (s user : ℕ) (o : Origin) (at : Context) (v : ℕ) → asked r (opening s user o at) ≡ value v
       → T (inLife (r .capabilities) o (r .clock))
-  pub check-alive : (r : Register) (s p : ℕ) → Yes r s p → T (inLife (r .capabilities) ((sessionAt (r .sessions) s) .on) (r .clock))
+  pub check-alive : (r : Register) (s p : ℕ) (at : Context) → Yes r s p at → T (inLife (r .capabilities) ((sessionAt (r .sessions) s) .on) (r .clock))

@@ -7,7 +7,7 @@ use Rattle.model.specs.State.{contextOf, planOf}
 use Rattle.model.specs.Rulings.{value, refused}
 use Rattle.model.specs.Revocation.{raise}
 use Rattle.model.specs.Calls.{Call, enrol, found, grant, withdraw, appoint, dismiss, clock, create, allow, lend, hand, opening, check, amend, revoke, close, same}
-use Rattle.model.specs.Edges.{Exchange, _gets_, Answered, create-3, staffed, numbered}
+use Rattle.model.specs.Edges.{Exchange, _gets_, Answered, create-3, check-9, staffed, numbered}
 
 -- create from capability 0, and open on it, by a user at an hour; the new capability would have the use limit given
 abbrev create-0 : (user hour uses : ℕ) → Call
@@ -43,7 +43,7 @@ pub record OrderCases : Type 0 where
       ∷ lend 64 0 1 gets refused 2
       ∷ hand 3 64 0 gets refused 2
       ∷ open-on 64 3 9 0 0 gets refused 2
-      ∷ check 5 32 gets refused 2
+      ∷ check-9 5 32 gets refused 2
       ∷ amend 3 0 (raise 65536) gets refused 2
       ∷ revoke 64 0 gets refused 2
       ∷ close 64 gets refused 2
@@ -64,7 +64,7 @@ pub record OrderCases : Type 0 where
       ∷ revoke 3 0 gets refused 3
       ∷ opening 5 3 (ofRole 1) (contextOf 9 0 0) gets value 0
       ∷ opening 5 3 (ofRole 2) (contextOf 9 0 0) gets refused 3
-      ∷ check 6 4 gets refused 3
+      ∷ check-9 6 4 gets refused 3
       ∷ close 6 gets refused 3
       ∷ same 0 0 gets refused 3
       ∷ []))

@@ -72,7 +72,7 @@ localCall (Allow user capability permissions) = allow user capability permission
 localCall (Lend user capability roles) = lend user capability roles
 localCall (Hand user receiver capability) = hand user receiver capability
 localCall (Open session user on at) = opening session user (namedOrigin on) at
-localCall (Check session permission) = check session permission
+localCall (Check session permission at) = check session permission at
 localCall (Close session) = close session
 
 abbrev pub treeCall : TreeRequest → Call

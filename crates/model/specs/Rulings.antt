@@ -8,7 +8,8 @@ use Rattle.model.specs.declared.Origin.{Origin}
 use Rattle.model.specs.declared.Role.{Role}
 use Rattle.model.specs.declared.Capability.{Capability}
 use Rattle.model.specs.declared.Register.{Register}
-use Rattle.model.specs.State.{roleAt, capabilityAt, sessionAt, Party, party, Terms, terms}
+use Rattle.model.specs.declared.Context.{Context}
+use Rattle.model.specs.State.{roleAt, capabilityAt, sessionAt, Party, party, Terms, terms, admitted}
 
 -- "A call answers a value or a refusal. A refusal is its number alone"
 pub data Outcome : Type 0 where
@@ -87,3 +88,7 @@ partyOf r o = party (r .roles) (r .capabilities) o
 
 abbrev pub termsOf : Register → Origin → Terms
 termsOf r o = terms (r .roles) (r .capabilities) o
+
+-- the role or the capability admits the context (§3.3.4)
+abbrev pub admits : Register → Origin → Context → Bool
+admits r o at = admitted (termsOf r o) at

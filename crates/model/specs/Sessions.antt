@@ -47,17 +47,22 @@ openingSession clock enrolled count x y t s user o at =
       after = newSession user o at;
     }
 
--- "1 on a role if the user is still appointed and the role's authority has the permission; on a pass if the user holds it,
--- it is not revoked, the clock is in its life and its authority has the permission"
-abbrev pub permitting : (clock : ℕ) → Party → Terms → (user permission : ℕ) → List Bool
-permitting clock y t user p = hasMember y user ∷ not (t .revoked) ∷ lives y clock ∷ has (t .grants) p ∷ []
+-- §6.13.2: what a check asks of a role or a capability, with the terms t, in the context that it names
+abbrev pub permitting : (clock : ℕ) → Party → Terms → (user permission : ℕ) → Context → List Bool
+permitting clock y t user p at =
+    hasMember y user
+    ∷ not (t .revoked)
+    ∷ lives y clock
+    ∷ has (t .grants) p
+    ∷ admitted t at
+    ∷ []
 
--- "check session permission. 2; 3. .. otherwise 0.": x is the session, `permitted` says whether it has the permission
-abbrev pub checking : Session → (permitted : Bool) → (s p : ℕ) → Ruling Session
-checking x permitted s p =
+-- §6.13.1, §6.13.3: x is the session, whose opening is not read; `permitted` says whether it has the permission in this context
+abbrev pub checking : Session → (permitted : Bool) → (s p : ℕ) → Context → Ruling Session
+checking x permitted s p at =
     record {
       guards =
-          2 unless (isSession s ∷ isPermission p ∷ [])
+          2 unless (isSession s ∷ isPermission p ∷ inContext at ∷ [])
           ∷ 3 unless (x .active ∷ [])
           ∷ [];
       result = cond permitted 1 0;
@@ -89,14 +94,14 @@ openRuling r s user o at =
     into (puttingSession (withCapabilities r (used (r .capabilities) o)) s)
     (openingSession (r .clock) (r .enrolled) (r .count) (session r s) (partyOf r o) (termsOf r o) s user o at)
 
-abbrev pub permitTests : Register → Origin → (user permission : ℕ) → List Bool
-permitTests r o user p = permitting (r .clock) (partyOf r o) (termsOf r o) user p
+abbrev pub permitTests : Register → Origin → (user permission : ℕ) → Context → List Bool
+permitTests r o user p at = permitting (r .clock) (partyOf r o) (termsOf r o) user p at
 
-unfoldable pub permits : Register → Origin → (user permission : ℕ) → Bool
-permits r o user p = each (permitTests r o user p)
+unfoldable pub permits : Register → Origin → (user permission : ℕ) → Context → Bool
+permits r o user p at = each (permitTests r o user p at)
 
-unfoldable pub checkRuling : Register → ℕ → ℕ → Ruling Register
-checkRuling r s p = into (λ x. r) (checking (session r s) (permits r ((session r s) .on) ((session r s) .user) p) s p)
+unfoldable pub checkRuling : Register → (s permission : ℕ) → Context → Ruling Register
+checkRuling r s p at = into (λ x. r) (checking (session r s) (permits r ((session r s) .on) ((session r s) .user) p at) s p at)
 
 unfoldable pub closeRuling : Register → ℕ → Ruling Register
 closeRuling r s = into (puttingSession r s) (closing (session r s) s)

@@ -13,11 +13,12 @@ use Rattle.masks.specs.Masks.{has, within}
 use Rattle.model.specs.declared.Origin.{Origin}
 use Rattle.model.specs.declared.Origin.the-variants.{Role as ofRole, Capability as ofCapability}
 use Rattle.model.specs.declared.Register.{Register}
+use Rattle.model.specs.declared.Context.{Context}
 use Rattle.model.specs.State.{fresh, authority, roleAuthority, inLife, sessionAt}
 use Rattle.model.specs.Lineage.{Descends, Reaches}
 use Rattle.model.specs.Rules.{wellFormed}
 use Rattle.model.specs.Setters.{withRevoked, withCapabilities}
-use Rattle.model.specs.Rulings.{Outcome, value, refused, role, capability, opened}
+use Rattle.model.specs.Rulings.{Outcome, value, refused, role, capability, opened, admits}
 use Rattle.model.specs.Calls.{Call, check, revoke, step}
 use Rattle.model.specs.Lists.{Event, perform, run, derivedFrom}
 
@@ -28,9 +29,9 @@ asked r c = (step r c) .answer
 abbrev pub next : Register → Call → Register
 next r c = (step r c) .after
 
--- "Yes is a check's value 1."
-abbrev pub Yes : Register → ℕ → ℕ → Type 0
-Yes r s p = asked r (check s p) ≡ value 1
+-- yes is a check's value 1 (§6.13.2)
+abbrev pub Yes : Register → (s p : ℕ) → Context → Type 0
+Yes r s p at = asked r (check s p at) ≡ value 1
 
 -- ---- containment: "A mask lies within another that it does not exceed, a life within one that starts no later and ends no
 -- earlier, a limit within one at least as large."
@@ -49,22 +50,24 @@ pub record Contained (r : Register) (lower upper : ℕ) : Type 0 where
 
 -- ---- exact checks
 
--- capability m grants permission p, is not revoked, and is in life
-pub record Sound (r : Register) (p m : ℕ) : Type 0 where
+-- capability m grants permission p, is not revoked, is in life, and admits the context
+pub record Sound (r : Register) (p : ℕ) (at : Context) (m : ℕ) : Type 0 where
   pub grants : T (has (authority (r .roles) (capability r m)) p)
   pub unrevoked : T (not ((capability r m) .revoked))
   pub alive : T (inLife (r .capabilities) (ofCapability m) (r .clock))
+  pub admitting : T (admits r (ofCapability m) at)
 
--- role k grants permission p and is in life; it is never revoked
-pub record RoleSound (r : Register) (p k : ℕ) : Type 0 where
+-- role k grants permission p, is in life, and admits the context; it is never revoked
+pub record RoleSound (r : Register) (p : ℕ) (at : Context) (k : ℕ) : Type 0 where
   pub grants : T (has (roleAuthority (r .roles) k) p)
   pub alive : T (inLife (r .capabilities) (ofRole k) (r .clock))
+  pub admitting : T (admits r (ofRole k) at)
 
 -- the user holds capability n, every capability on its lineage is sound, and the lineage reaches a role that is sound
-pub record Entitled (r : Register) (derived : ℕ → Origin) (user p n : ℕ) : Type 0 where
+pub record Entitled (r : Register) (derived : ℕ → Origin) (user p : ℕ) (at : Context) (n : ℕ) : Type 0 where
   pub holder : T (has ((capability r n) .holders) user)
-  pub lineage : (m : ℕ) → Descends derived n m → Sound r p m
-  pub ends : (k : ℕ) × Reaches derived (suc n) n k × RoleSound r p k
+  pub lineage : (m : ℕ) → Descends derived n m → Sound r p at m
+  pub ends : (k : ℕ) × Reaches derived (suc n) n k × RoleSound r p at k
 
 -- ---- exact revokes
 
@@ -79,9 +82,9 @@ pub data CountOf (P : ℕ → Type 0) : (n v : ℕ) → Type 0 where
   counted : {n v : ℕ} → P n → CountOf P n v → CountOf P (suc n) (suc v)
   skipped : {n v : ℕ} → ¬ P n → CountOf P n v → CountOf P (suc n) v
 
--- "A revoke changes a check if the same check, asked just before and just after it, answers differently."
-abbrev pub ChangesCheck : Register → Register → ℕ → ℕ → Type 0
-ChangesCheck r r′ s p = asked r (check s p) ≢ asked r′ (check s p)
+-- the same check, of the same session and permission in the same context, is answered differently just before and just after (§7.2.5)
+abbrev pub ChangesCheck : Register → Register → (s p : ℕ) → Context → Type 0
+ChangesCheck r r′ s p at = asked r (check s p at) ≢ asked r′ (check s p at)
 
 -- session s is on a capability that is due
 abbrev pub OnDue : Register → (ℕ → Origin) → ℕ → ℕ → Type 0
@@ -94,7 +97,7 @@ pub record Revokes (r r′ : Register) (derived : ℕ → Origin) (n v : ℕ) : 
   -- its value is the number of those that are due
   pub counts : CountOf (Due r derived n) (r .count) v
   -- the checks it changes are exactly the yes answers of sessions on those
-  pub checks : (s p : ℕ) → ChangesCheck r r′ s p ↔ (Yes r s p × OnDue r derived n s)
+  pub checks : (s p : ℕ) (at : Context) → ChangesCheck r r′ s p at ↔ (Yes r s p at × OnDue r derived n s)
   -- nothing else changes: no mark is taken away, no other field of a capability, no other part of the register
   pub keeps-marks : (i : ℕ) → i < r .count → T ((capability r i) .revoked) → T ((capability r′ i) .revoked)
   pub marks-only : (i : ℕ) → i < r .count → capability r′ i ≡ withRevoked (capability r i) ((capability r′ i) .revoked)
@@ -111,9 +114,9 @@ pub record Guarantee (r : Register) (derived : ℕ → Origin) : Type 0 where
   pub bounded : (n : ℕ) → n < r .count → (k : ℕ) × Reaches derived (suc n) n k × T ((role r k) .founded)
   -- and no other role
   pub one-end : (n j k : ℕ) → Reaches derived (suc n) n j → Reaches derived (suc n) n k → j ≡ k
-  -- a session on a capability is told yes for a permission exactly when it is entitled to it
-  pub exact-check : (s p n : ℕ) → T (opened r s) → (sessionAt (r .sessions) s) .on ≡ ofCapability n
-      → Yes r s p ↔ Entitled r derived ((sessionAt (r .sessions) s) .user) p n
+  -- a session on a capability is told yes for a permission in a context exactly when it is entitled to it there
+  pub exact-check : (s p n : ℕ) (at : Context) → T (opened r s) → (sessionAt (r .sessions) s) .on ≡ ofCapability n
+      → Yes r s p at ↔ Entitled r derived ((sessionAt (r .sessions) s) .user) p at n
   -- if an accepted revoke comes next
   pub exact-revoke : (user n v : ℕ) → asked r (revoke user n) ≡ value v → Revokes r (next r (revoke user n)) derived n v
 

@@ -130,7 +130,7 @@ pub enum LocalRequest {
     Lend(u32, u32, u32),
     Hand(u32, u32, u32),
     Open(u32, u32, Named, Context),
-    Check(u32, u32),
+    Check(u32, u32, Context),
     Close(u32),
 }
 

@@ -43,7 +43,7 @@ namesOf (Allow user capability permissions) = namesWith 0 0 0 capability 0 TheOr
 namesOf (Lend user capability roles) = namesWith 0 0 0 capability 0 TheOrigin
 namesOf (Hand user receiver capability) = namesWith 0 0 0 capability 0 Nothing
 namesOf (Open session user on at) = namesWith 0 (roleIn on) 0 (capabilityIn on) session Nothing
-namesOf (Check session permission) = namesWith 0 0 0 0 session TheSession
+namesOf (Check session permission at) = namesWith 0 0 0 0 session TheSession
 namesOf (Close session) = namesWith 0 0 0 0 session Nothing
 
 abbrev pub capabilityPlace : Follow → ℕ → Origin → ℕ → ℕ

@@ -100,7 +100,7 @@ pub fn names_of(q: LocalRequest) -> Names
             session,
             Follow::Nothing,
         ),
-        LocalRequest::Check(session, _) => named_by(0, 0, 0, 0, session, Follow::Session),
+        LocalRequest::Check(session, _, _) => named_by(0, 0, 0, 0, session, Follow::Session),
         LocalRequest::Close(session) => named_by(0, 0, 0, 0, session, Follow::Nothing),
     }
 }

@@ -18,6 +18,6 @@ use Rattle.player.specs.declared.step.Step.the-variants.{Refuse, Check, 
 -- on any register of which the test of the rules says `formed`: the line is refused, or it is the request's call
 abbrev pub Fits : Bool → List ℕ → Step → Type 0
 Fits formed line (Refuse why) = (r : Register) → wellFormed r ≡ formed → record { answer = refused (refusalNumber why); after = r } ≡ lineEffect r line
-Fits formed line (Check s q) = (formed ≡ true) × (parse line ≡ some (check s q))
+Fits formed line (Check s q context) = (formed ≡ true) × (parse line ≡ some (check s q context))
 Fits formed line (One q) = (formed ≡ true) × (parse line ≡ some (localCall q))
 Fits formed line (Tree t) = (formed ≡ true) × (parse line ≡ some (treeCall t))

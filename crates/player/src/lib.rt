@@ -56,12 +56,12 @@ fn play(start: Register, input: &[u8], out: &mut [u8]) -> usize
                 let n = print(&mut out[to..], Answer::Refused(why));
                 to += n;
             }
-            Step::Check(number, permission) => {
+            Step::Check(number, permission, context) => {
                 let s = r.sessions[(number % 64) as usize];
                 let on = s.on;
                 let x = r.roles[(role_held(on) % 32) as usize];
                 let c = r.capabilities[capability_held(on) as usize];
-                let answer = answer_check(r.clock, s, x, c, &columns, number, permission);
+                let answer = answer_check(r.clock, s, x, c, &columns, number, permission, context);
                 let n = print(&mut out[to..], answer);
                 to += n;
             }

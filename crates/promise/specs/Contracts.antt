@@ -76,8 +76,8 @@ module _ {M : Type 1} (𝓤 : URA M) (H : Heap 𝓤) (A : Atoms 𝓤) (mem : Mem
     pub opening-says : (κs : _) (r : _) (session : _) (user : _) (on : _) (at : _)
         → Says (calls-proofs.«open».clauses 𝓤 H A mem runs κs (r, (session, (user, (on, (at, tt)))))) (λ q end. effectOf q ≡ step r (call.opening session user (namedOrigin on) at))
     pub check : calls-proofs.check.Statement.statement M
-    pub check-says : (κs : _) (r : _) (session : _) (permission : _)
-        → Says (calls-proofs.check.clauses 𝓤 H A mem runs κs (r, (session, (permission, tt)))) (λ q end. effectOf q ≡ step r (call.check session permission))
+    pub check-says : (κs : _) (r : _) (session : _) (permission : _) (at : _)
+        → Says (calls-proofs.check.clauses 𝓤 H A mem runs κs (r, (session, (permission, (at, tt))))) (λ q end. effectOf q ≡ step r (call.check session permission at))
     pub amend : calls-proofs.amend.Statement.statement M
     pub amend-says : (κs : _) (r : _) (user : _) (n : _) (change : _)
         → Says (calls-proofs.amend.clauses 𝓤 H A mem runs κs (r, (user, (n, (change, tt))))) (λ q end. effectOf q ≡ step r (call.amend user n (changeOf change)))

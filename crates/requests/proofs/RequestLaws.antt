@@ -48,10 +48,10 @@ target-then kind (some v) f = cases (originIn kind (nth v 0))
     cases (some on) = refl
 
 abbrev created : ℕ → Origin → List ℕ → Call
-created u on v = create u on (contextIn v) (planIn v)
+created u on v = create u on (contextIn 1 v) (planIn v)
 
 abbrev opened : ℕ → ℕ → Origin → List ℕ → Call
-opened s u on v = opening s u on (contextIn v)
+opened s u on v = opening s u on (contextIn 1 v)
 
 -- no more than 12 numbers, or 4, matter to them
 created-take : (u : ℕ) (on : Origin) (v : List ℕ) → created u on (take 12 v) ≡ created u on v
@@ -118,7 +118,7 @@ module _ (s : List ℕ) (d : Number) (u n : ℕ) (t : Target) (e : d ≡ numberI
   pub create-wrong : not (t .ok) ≡ true → none ≡ createIn (after 32 s)
   create-wrong q = rw (create-told, not-true (t .ok) q)
 
-  pub create-right : not (t .ok) ≡ false → (at : Context) (plan : Plan) → at ≡ contextIn (t .v) → plan ≡ planIn (t .v)
+  pub create-right : not (t .ok) ≡ false → (at : Context) (plan : Plan) → at ≡ contextIn 1 (t .v) → plan ≡ planIn (t .v)
       → some (localCall (Create u (t .on) at plan)) ≡ createIn (after 32 s)
   create-right q at plan a p = rw (create-told, not-false (t .ok) q, created-take _ _ (t .v), a, p)
 
@@ -133,7 +133,7 @@ module _ (s : List ℕ) (d : TwoNumbers) (i u n : ℕ) (t : Target) (e : d ≡ t
   pub open-wrong : not (t .ok) ≡ true → none ≡ openIn (after 32 s)
   open-wrong q = rw (open-told, not-true (t .ok) q)
 
-  pub open-right : not (t .ok) ≡ false → (at : Context) → at ≡ contextIn (t .v) → some (localCall (Open i u (t .on) at)) ≡ openIn (after 32 s)
+  pub open-right : not (t .ok) ≡ false → (at : Context) → at ≡ contextIn 1 (t .v) → some (localCall (Open i u (t .on) at)) ≡ openIn (after 32 s)
   open-right q at a = rw (open-told, not-false (t .ok) q, opened-take _ _ _ (t .v), a)
 
 pub amend-none : (s : List ℕ) (d : TwoNumbers) → d ≡ twoIn s → d ≡ NotBoth → none ≡ amendIn (after 32 s)

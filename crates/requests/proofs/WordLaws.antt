@@ -3,7 +3,7 @@ use mathlib.Core.Path.{_≡_, refl, sym, ap, _∙_}
 use mathlib.Core.Bool.{Bool, true, false, not}
 use mathlib.Core.List.{List, [], _∷_}
 use mathlib.Core.Option.{Option, none, some}
-use Prim.Native.Nat.{ℕ, _+_, _-_, _≤_}
+use Prim.Native.Nat.{ℕ, _+_, _-_, _≤_, _<_}
 use native.Mathlib.Omega.{arith}
 use borrow.Author.Tests.{not-true, not-false}
 use lib.Dec.{lit<}
@@ -13,17 +13,17 @@ use Rattle.buffers.proofs.Parts.{tail}
 use Rattle.buffers.proofs.Comparing.{same-eq}
 use Rattle.masks.specs.Bytes.{bytes, sameBytes}
 use Rattle.model.specs.Calls.{Call}
-use Rattle.model.specs.Lines.{Form, andThen, numbers, forms, byWord, ofNumbers, createIn, openIn, amendIn, request, parse}
+use Rattle.model.specs.Lines.{Form, andThen, numbers, nth, forms, byWord, ofNumbers, createIn, openIn, amendIn, request, parse}
 use Rattle.text.specs.Parts.{firstWord, after}
 use Rattle.text.specs.Readers.{valuesOf}
 use Rattle.text.specs.declared.numbers.Numbers.{Numbers as Readings}
 use Rattle.text.proofs.PartLaws.{length-before, split-before}
 use Rattle.requests.specs.Spelling.{letters, asks, arity, plainCall}
 use Rattle.requests.specs.declared.words.One.the-variants.{Clock, Close}
-use Rattle.requests.specs.declared.words.Two.the-variants.{Enrol, Grant, Withdraw, Appoint, Dismiss, Check, Revoke, Same}
+use Rattle.requests.specs.declared.words.Two.the-variants.{Enrol, Grant, Withdraw, Appoint, Dismiss, Revoke, Same}
 use Rattle.requests.specs.declared.words.Three.the-variants.{Allow, Lend, Hand}
 use Rattle.requests.specs.declared.words.Plain.{Plain}
-use Rattle.requests.specs.declared.words.Plain.the-variants.{Single, Pair, Triple, Found}
+use Rattle.requests.specs.declared.words.Plain.the-variants.{Single, Pair, Triple, Found, Check}
 use Rattle.requests.specs.declared.words.Word.{Word}
 use Rattle.requests.specs.declared.words.Word.the-variants.{Numbers, Create, Open, Amend, NoWord}
 
@@ -77,7 +77,7 @@ unfolding asks forms
 asks-none w args e = rw e
 
 -- a word that only numbers follow asks for what its numbers say
-asks-numbers : (w : Plain) (args : List (List ℕ)) → asks (Numbers w) args ≡ ofNumbers (arity w) (plainCall w) args
+pub asks-numbers : (w : Plain) (args : List (List ℕ)) → asks (Numbers w) args ≡ ofNumbers (arity w) (plainCall w) args
 unfolding asks forms
 asks-numbers (Single Clock) args = refl
 asks-numbers (Single Close) args = refl
@@ -86,27 +86,31 @@ asks-numbers (Pair Grant) args = refl
 asks-numbers (Pair Withdraw) args = refl
 asks-numbers (Pair Appoint) args = refl
 asks-numbers (Pair Dismiss) args = refl
-asks-numbers (Pair Check) args = refl
 asks-numbers (Pair Revoke) args = refl
 asks-numbers (Pair Same) args = refl
 asks-numbers (Triple Allow) args = refl
 asks-numbers (Triple Lend) args = refl
 asks-numbers (Triple Hand) args = refl
 asks-numbers Found args = refl
+asks-numbers Check args = refl
 
 pub arity-small : (w : Plain) (k : ℕ) → k ≡ arity w → k ≤ 12
 arity-small (Single w) k e = omega arith
 arity-small (Pair w) k e = omega arith
 arity-small (Triple w) k e = omega arith
 arity-small Found k e = omega arith
+arity-small Check k e = omega arith
+
+five : (v : List ℕ) (i : ℕ) → i < 5 → nth (take 5 v) i ≡ nth v i
+five v i = getD-take 5 v i 0
 
 -- numbers past its own do not matter to a word
 plain-take : (w : Plain) (v : List ℕ) → plainCall w (take (arity w) v) ≡ plainCall w v
 plain-take (Single w) v = rw (getD-take 1 v 0 0 (lit< tt))
 plain-take (Pair w) v = rw (getD-take 2 v 0 0 (lit< tt), getD-take 2 v 1 0 (lit< tt))
 plain-take (Triple w) v = rw (getD-take 3 v 0 0 (lit< tt), getD-take 3 v 1 0 (lit< tt), getD-take 3 v 2 0 (lit< tt))
-plain-take Found v =
-    rw (getD-take 5 v 0 0 (lit< tt), getD-take 5 v 1 0 (lit< tt), getD-take 5 v 2 0 (lit< tt), getD-take 5 v 3 0 (lit< tt), getD-take 5 v 4 0 (lit< tt))
+plain-take Found v = rw (five v 0 (lit< tt), five v 1 (lit< tt), five v 2 (lit< tt), five v 3 (lit< tt), five v 4 (lit< tt))
+plain-take Check v = rw (five v 0 (lit< tt), five v 1 (lit< tt), five v 2 (lit< tt), five v 3 (lit< tt), five v 4 (lit< tt))
 
 -- what the line says, by the numbers that were read
 module _ (w : Plain) (k : ℕ) (s : List ℕ) (r : Readings) (size : k ≡ arity w) (e : valuesOf k r ≡ numbers k (after 32 s)) where

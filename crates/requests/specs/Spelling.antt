@@ -6,15 +6,15 @@ use Prim.Native.Nat.{ℕ}
 use Prim.Native.String.{String}
 use Rattle.masks.specs.Bytes.{bytes}
 use Rattle.model.specs.Calls.{Call, enrol, found, grant, withdraw, appoint, dismiss, clock, allow, lend, hand, check, revoke, close, same}
-use Rattle.model.specs.Lines.{nth, forms, byWord}
+use Rattle.model.specs.Lines.{nth, contextIn, forms, byWord}
 use Rattle.requests.specs.declared.words.One.{One}
 use Rattle.requests.specs.declared.words.One.the-variants.{Clock, Close}
 use Rattle.requests.specs.declared.words.Two.{Two}
-use Rattle.requests.specs.declared.words.Two.the-variants.{Enrol, Grant, Withdraw, Appoint, Dismiss, Check, Revoke, Same}
+use Rattle.requests.specs.declared.words.Two.the-variants.{Enrol, Grant, Withdraw, Appoint, Dismiss, Revoke, Same}
 use Rattle.requests.specs.declared.words.Three.{Three}
 use Rattle.requests.specs.declared.words.Three.the-variants.{Allow, Lend, Hand}
 use Rattle.requests.specs.declared.words.Plain.{Plain}
-use Rattle.requests.specs.declared.words.Plain.the-variants.{Single, Pair, Triple, Found}
+use Rattle.requests.specs.declared.words.Plain.the-variants.{Single, Pair, Triple, Found, Check}
 use Rattle.requests.specs.declared.words.Word.{Word}
 use Rattle.requests.specs.declared.words.Word.the-variants.{Numbers, Create, Open, Amend, NoWord}
 
@@ -28,7 +28,6 @@ twoLetters Grant = "grant"
 twoLetters Withdraw = "withdraw"
 twoLetters Appoint = "appoint"
 twoLetters Dismiss = "dismiss"
-twoLetters Check = "check"
 twoLetters Revoke = "revoke"
 twoLetters Same = "same"
 
@@ -42,6 +41,7 @@ plainLetters (Single w) = oneLetters w
 plainLetters (Pair w) = twoLetters w
 plainLetters (Triple w) = threeLetters w
 plainLetters Found = "found"
+plainLetters Check = "check"
 
 -- how a word is spelt; the empty text is no request
 abbrev pub letters : Word → String
@@ -62,6 +62,7 @@ arity (Single w) = 1
 arity (Pair w) = 2
 arity (Triple w) = 3
 arity Found = 5
+arity Check = 5
 
 abbrev pub oneCall : One → ℕ → Call
 oneCall Clock = clock
@@ -73,7 +74,6 @@ twoCall Grant = grant
 twoCall Withdraw = withdraw
 twoCall Appoint = appoint
 twoCall Dismiss = dismiss
-twoCall Check = check
 twoCall Revoke = revoke
 twoCall Same = same
 
@@ -87,3 +87,4 @@ plainCall (Single w) v = oneCall w (nth v 0)
 plainCall (Pair w) v = twoCall w (nth v 0) (nth v 1)
 plainCall (Triple w) v = threeCall w (nth v 0) (nth v 1) (nth v 2)
 plainCall Found v = found (nth v 0) (nth v 1) (nth v 2) (nth v 3) (nth v 4)
+plainCall Check v = check (nth v 0) (nth v 1) (contextIn 2 v)

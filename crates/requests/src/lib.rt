@@ -1,6 +1,7 @@
 // The parser of requests: a line is a word and exactly its arguments.
 ghost use mathlib.Core.Path.{_≡_};
-ghost use Rattle.model.specs.Lines.{contextIn, planIn, createIn, openIn, amendIn, parse as parsed};
+ghost use Rattle.model.specs.State.{contextOf};
+ghost use Rattle.model.specs.Lines.{planIn, createIn, openIn, amendIn, parse as parsed};
 ghost use Rattle.model.specs.Requests.{callOf, parsedCall};
 ghost use Rattle.text.specs.Parts.{after};
 ghost use Rattle.requests.specs.Spelling.{asks, arity as arityOf, oneCall, twoCall, threeCall, plainCall};
@@ -27,6 +28,7 @@ use text::numbers::read_numbers;
 use text::numbers::read_two;
 use text::parts::first_word;
 
+pub mod checks;
 mod words;
 
 fn one_of(w: One, a: u32) -> Request
@@ -47,7 +49,6 @@ fn two_of(w: Two, a: u32, b: u32) -> Request
         Two::Withdraw => Request::Tree(TreeRequest::Withdraw(a, b)),
         Two::Appoint => Request::Local(LocalRequest::Appoint(a, b)),
         Two::Dismiss => Request::Local(LocalRequest::Dismiss(a, b)),
-        Two::Check => Request::Local(LocalRequest::Check(a, b)),
         Two::Revoke => Request::Tree(TreeRequest::Revoke(a, b)),
         Two::Same => Request::Tree(TreeRequest::Same(a, b)),
     }
@@ -63,6 +64,16 @@ fn three_of(w: Three, a: u32, b: u32, c: u32) -> Request
     }
 }
 
+fn context_of(hour: u32, place: u32, device: u32) -> Context
+    ensures { λ r. ⌜ r ≡ contextOf hour place device ⌝ }
+{
+    Context {
+        hour,
+        place,
+        device,
+    }
+}
+
 // How many numbers follow a word.
 fn arity(w: Plain) -> usize
     ensures { λ r. ⌜ r ≡ arityOf w ⌝ }
@@ -72,6 +83,7 @@ fn arity(w: Plain) -> usize
         Plain::Pair(_) => 2,
         Plain::Triple(_) => 3,
         Plain::Found => 5,
+        Plain::Check => 5,
     }
 }
 
@@ -84,6 +96,10 @@ fn plain_of(w: Plain, v: [u32; 12]) -> Request
         Plain::Pair(two) => two_of(two, v[0], v[1]),
         Plain::Triple(three) => three_of(three, v[0], v[1], v[2]),
         Plain::Found => Request::Local(LocalRequest::Found(v[0], v[1], v[2], v[3], v[4])),
+        Plain::Check => {
+            let at = context_of(v[2], v[3], v[4]);
+            Request::Local(LocalRequest::Check(v[0], v[1], at))
+        }
     }
 }
 
@@ -99,16 +115,6 @@ fn plain_request(w: Plain, s: &[u8]) -> Parsed
     }
     let v = read.v;
     Parsed::Line(plain_of(w, v))
-}
-
-fn context_of(v: [u32; 12]) -> Context
-    ensures { λ r. ⌜ r ≡ contextIn v ⌝ }
-{
-    Context {
-        hour: v[1],
-        place: v[2],
-        device: v[3],
-    }
 }
 
 fn plan_of(v: [u32; 12]) -> Plan
@@ -140,7 +146,7 @@ fn create_request(s: &[u8]) -> Parsed
         return Parsed::NoRequest;
     }
     let v = target.v;
-    let at = context_of(v);
+    let at = context_of(v[1], v[2], v[3]);
     let plan = plan_of(v);
     let on = target.on;
     Parsed::Line(Request::Local(LocalRequest::Create(user, on, at, plan)))
@@ -160,7 +166,7 @@ fn open_request(s: &[u8]) -> Parsed
         return Parsed::NoRequest;
     }
     let v = target.v;
-    let at = context_of(v);
+    let at = context_of(v[1], v[2], v[3]);
     let on = target.on;
     Parsed::Line(Request::Local(LocalRequest::Open(session, user, on, at)))
 }

@@ -20,7 +20,6 @@ pub enum Two {
     Withdraw,
     Appoint,
     Dismiss,
-    Check,
     Revoke,
     Same,
 }
@@ -32,12 +31,13 @@ pub enum Three {
     Hand,
 }
 
-// Words that only numbers follow; five follow found.
+// Words that only numbers follow; five follow found and check.
 pub enum Plain {
     Single(One),
     Pair(Two),
     Triple(Three),
     Found,
+    Check,
 }
 
 pub enum Word {
@@ -103,7 +103,7 @@ fn session_word(w: &[u8]) -> Word
         return Word::Open;
     }
     if same_bytes(w, b"check") {
-        return Word::Numbers(Plain::Pair(Two::Check));
+        return Word::Numbers(Plain::Check);
     }
     if same_bytes(w, b"amend") {
         return Word::Amend;

@@ -51,58 +51,58 @@ close-commit r p s e =
 -- ---- check
 
 -- what may be lent is not read
-unlent : (tick : ℕ) (y : Party) (o : Origin) (x : Role) (c : Capability) (grants lendable user q : ℕ)
-    → permitting tick y (slotTerms o x c grants 0) user q ≡ permitting tick y (slotTerms o x c grants lendable) user q
-unfolding slotTerms
-unlent tick y (ofRole k) x c grants lendable user q = refl
-unlent tick y (ofCapability n) x c grants lendable user q = refl
+unlent : (tick : ℕ) (y : Party) (o : Origin) (x : Role) (c : Capability) (grants lendable user q : ℕ) (at : Context)
+    → permitting tick y (slotTerms o x c grants 0) user q at ≡ permitting tick y (slotTerms o x c grants lendable) user q at
+unfolding slotTerms admitted
+unlent tick y (ofRole k) x c grants lendable user q at = refl
+unlent tick y (ofCapability n) x c grants lendable user q at = refl
 
 -- what an origin permits, from its element
-origin-permits : (r : Register) (p : Places) (columns : List ℕ) (s : Session) (q : ℕ) → Columns columns (r .roles) → OriginInRange (s .on) → OnPlaced p (s .on)
-    → permitsIn (r .clock) s ((look r p) .role) ((look r p) .capability) (grantedBy columns (s .on) ((look r p) .capability)) q ≡ permits r (s .on) (s .user) q
+origin-permits : (r : Register) (p : Places) (columns : List ℕ) (s : Session) (q : ℕ) (at : Context) → Columns columns (r .roles) → OriginInRange (s .on) → OnPlaced p (s .on)
+    → permitsIn (r .clock) s ((look r p) .role) ((look r p) .capability) columns q at ≡ permits r (s .on) (s .user) q at
 unfolding permitsIn permits
-origin-permits r p columns s q h l e =
+origin-permits r p columns s q at h l e =
     let ranged = origin← (s .on) l in
     let x : Role = (look r p) .role in
     let c : Capability = (look r p) .capability in
-    ap each (unlent (r .clock) (partyIn (s .on) x c) (s .on) x c (grantedBy columns (s .on) c) (lendableBy columns (s .on) c) (s .user) q)
-    ∙ ap₂ (λ (y : Party) (t : Terms). each (permitting (r .clock) y t (s .user) q))
+    ap each (unlent (r .clock) (partyIn (s .on) x c) (s .on) x c (grantedBy columns (s .on) c) (lendableBy columns (s .on) c) (s .user) q at)
+    ∙ ap₂ (λ (y : Party) (t : Terms). each (permitting (r .clock) y t (s .user) q at))
     (placed-party (r .roles) (r .capabilities) (s .on) (p .role) (p .capability) ranged e)
     (placed-terms columns (r .roles) h (r .capabilities) (s .on) (p .role) (p .capability) ranged e)
 
 -- the answer to a check, by the session and what it is on, read from the register
-pub check-answered : (r : Register) (p : Places) (columns : List ℕ) (s q : ℕ) → T (wellFormed r) → Columns columns (r .roles)
+pub check-answered : (r : Register) (p : Places) (columns : List ℕ) (s q : ℕ) (at : Context) → T (wellFormed r) → Columns columns (r .roles)
     → p .session ≡ s % 64 → OnPlaced p ((sessionAt (r .sessions) (s % 64)) .on)
-    → record { answer = checkAnswer (r .clock) (sessionAt (r .sessions) (p .session)) (roleAt (r .roles) (p .role)) (capabilityAt (r .capabilities) (p .capability)) columns s q; after = r }
-    ≡ settled r (check s q)
+    → record { answer = checkAnswer (r .clock) (sessionAt (r .sessions) (p .session)) (roleAt (r .roles) (p .role)) (capabilityAt (r .capabilities) (p .capability)) columns s q at; after = r }
+    ≡ settled r (check s q at)
 unfolding checkAnswer settled ruling checkRuling
-check-answered r p columns s q w h e o =
-    let ts : List Bool = isSession s ∷ isPermission q ∷ [] in
-    settle-same r ((checking (session r (p .session)) false s q) .guards) _
+check-answered r p columns s q at w h e o =
+    let ts : List Bool = isSession s ∷ isPermission q ∷ inContext at ∷ [] in
+    settle-same r ((checking (session r (p .session)) false s q at) .guards) _
     ∙ settle-ranged r 2 ts _ _ _ _ _ _
     (λ t. rw (e, in-range s 64 (each-at ts t 0)))
     (λ g.
     let i : s % 64 ≡ s = in-range s 64 (g .0 .0) in (
       rw (e, i) (ap (λ (b : Bool). cond b 1 0)
-          (origin-permits r p columns (sessionAt (r .sessions) s) q h (formed→ r w .sessions s (ltb→lt s 64 (g .0 .0)) (passed 3 ((checkRuling r s q) .guards) g .0) .on-range) (rw i at o))),
+          (origin-permits r p columns (sessionAt (r .sessions) s) q at h (formed→ r w .sessions s (ltb→lt s 64 (g .0 .0)) (passed 3 ((checkRuling r s q at) .guards) g .0) .on-range) (rw i at o))),
       refl,
     ))
 
 -- the same, where o is the answer and the places are those that the session's own numbers give
-pub check-done : (r : Register) (columns : List ℕ) (n q i j : ℕ) (o : Outcome) → T (wellFormed r) → Columns columns (r .roles)
+pub check-done : (r : Register) (columns : List ℕ) (n q : ℕ) (at : Context) (i j : ℕ) (o : Outcome) → T (wellFormed r) → Columns columns (r .roles)
     → (let on = (sessionAt (r .sessions) (n % 64)) .on in (i ≡ roleHeld on) × (j ≡ capabilityHeld on)) → j < 256
-    → o ≡ checkAnswer (r .clock) (sessionAt (r .sessions) (n % 64)) (roleAt (r .roles) (i % 32)) (capabilityAt (r .capabilities) j) columns n q
-    → record { answer = o; after = r } ≡ settled r (check n q)
-check-done r columns n q i j o k column held few e =
+    → o ≡ checkAnswer (r .clock) (sessionAt (r .sessions) (n % 64)) (roleAt (r .roles) (i % 32)) (capabilityAt (r .capabilities) j) columns n q at
+    → record { answer = o; after = r } ≡ settled r (check n q at)
+check-done r columns n q at i j o k column held few e =
     ap (λ (z : Outcome). record { answer = z; after = r }) e
-    ∙ check-answered r (record { user = 0; role = i % 32; parent = 0; capability = j; session = n % 64 }) columns n q k column refl (held-placed ((sessionAt (r .sessions) (n % 64)) .on) i j (held .0) (held .1) few)
+    ∙ check-answered r (record { user = 0; role = i % 32; parent = 0; capability = j; session = n % 64 }) columns n q at k column refl (held-placed ((sessionAt (r .sessions) (n % 64)) .on) i j (held .0) (held .1) few)
 
-pub check-commit : (r : Register) (p : Places) (columns : List ℕ) (s q : ℕ) → T (wellFormed r) → Columns columns (r .roles)
+pub check-commit : (r : Register) (p : Places) (columns : List ℕ) (s q : ℕ) (at : Context) → T (wellFormed r) → Columns columns (r .roles)
     → p .session ≡ s % 64 → OnPlaced p ((sessionAt (r .sessions) (s % 64)) .on)
-    → lifted r p (checkDecision (look r p) columns s q) ≡ settled r (check s q)
-check-commit r p columns s q w h e o =
-    ap (λ (z : Register). record { answer = (checkDecision (look r p) columns s q) .answer; after = z }) (put-same r p)
-    ∙ check-answered r p columns s q w h e o
+    → lifted r p (checkDecision (look r p) columns s q at) ≡ settled r (check s q at)
+check-commit r p columns s q at w h e o =
+    ap (λ (z : Register). record { answer = (checkDecision (look r p) columns s q at) .answer; after = z }) (put-same r p)
+    ∙ check-answered r p columns s q at w h e o
 
 -- ---- open
 

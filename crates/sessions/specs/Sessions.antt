@@ -22,20 +22,20 @@ use Rattle.slots.specs.Terms.{usedIn}
 unfoldable pub closeDecision : Slots → ℕ → Effect Slots
 closeDecision v s = ruled v (into (withSessionSlots v (v .capability)) (closing (v .session) s))
 
--- the session s has the permission; x or c is the role or the capability that it is on, with the authority `grants`; what it may lend
--- is not read
-unfoldable pub permitsIn : (tick : ℕ) → Session → Role → Capability → (grants permission : ℕ) → Bool
-permitsIn tick s x c grants q = each (permitting tick (partyIn (s .on) x c) (slotTerms (s .on) x c grants 0) (s .user) q)
+-- the session s has the permission in this context; x or c is the role or the capability that it is on; what it may lend is not read
+unfoldable pub permitsIn : (tick : ℕ) → Session → Role → Capability → List ℕ → (permission : ℕ) → Context → Bool
+permitsIn tick s x c column q at =
+    each (permitting tick (partyIn (s .on) x c) (slotTerms (s .on) x c (grantedBy column (s .on) c) 0) (s .user) q at)
 
 -- the answer alone, since check changes nothing
-unfoldable pub checkAnswer : (tick : ℕ) → Session → Role → Capability → List ℕ → (n permission : ℕ) → Outcome
-checkAnswer tick s x c column n q =
-    let a : Ruling Session = checking s (permitsIn tick s x c (grantedBy column (s .on) c) q) n q in
+unfoldable pub checkAnswer : (tick : ℕ) → Session → Role → Capability → List ℕ → (n permission : ℕ) → Context → Outcome
+checkAnswer tick s x c column n q at =
+    let a : Ruling Session = checking s (permitsIn tick s x c column q at) n q at in
     verdict (a .guards) (a .result)
 
-abbrev pub checkDecision : Slots → List ℕ → (n permission : ℕ) → Effect Slots
-checkDecision v column n q =
-    record { answer = checkAnswer (v .clock) (v .session) (v .role) (v .capability) column n q; after = v }
+abbrev pub checkDecision : Slots → List ℕ → (n permission : ℕ) → Context → Effect Slots
+checkDecision v column n q at =
+    record { answer = checkAnswer (v .clock) (v .session) (v .role) (v .capability) column n q at; after = v }
 
 -- of the terms only the masks and the revoked mark are read, so no authority
 abbrev pub openingOn : Slots → Origin → (s user : ℕ) → Context → Ruling Session

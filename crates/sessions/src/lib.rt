@@ -58,26 +58,41 @@ pub fn decide_close(v: Slots, session: u32) -> Decision
 
 // ---- check
 
-fn check_guards(s: Session, session: u32, permission: u32) -> Guarded
-    ensures { λ q. ⌜ ((permitted : Bool) → guarded q ≡ firstNumber ((checking s permitted session permission) .guards)) ⌝ }
+fn check_guards(s: Session, session: u32, permission: u32, at: Context) -> Guarded
+    ensures { λ q. ⌜ ((permitted : Bool) → guarded q ≡ firstNumber ((checking s permitted session permission at) .guards)) ⌝ }
 {
+    let timely = in_context(at);
     let k = first(!s.active, Refusal::Missing, Guarded::Pass);
-    first(!((session < 64) & (permission < 32)), Refusal::Range, k)
+    first(
+        !((session < 64) & (permission < 32) & timely),
+        Refusal::Range,
+        k,
+    )
 }
 
-// What check answers yes by; the role or the capability that the session is on has the authority `grants`.
-fn permitted(tick: u32, s: Session, x: Role, c: Capability, grants: u32, permission: u32) -> bool
-    ensures { λ q. ⌜ q ≡ permitsIn tick s x c grants permission ⌝ }
+// What check answers yes by: of the session, and of the role or the capability that it is on.
+fn permitted(
+    tick: u32,
+    s: Session,
+    x: Role,
+    c: Capability,
+    columns: &[u32; 64],
+    permission: u32,
+    at: Context,
+) -> bool
+    ensures { λ q. ⌜ q ≡ permitsIn tick s x c (now (columns .entry)) permission at ⌝ }
 {
     let o = s.on;
+    let grants = granted_by(columns, o, c);
     let t = allowance_of(o, x, c, grants, 0);
     let entitled = member_in(o, x, c, s.user as u32);
     let alive = alive_in(o, c, tick);
     let granted = member(t.grants as u64, permission);
-    entitled & !t.revoked & alive & granted
+    let admitted = admits(t, at);
+    entitled & !t.revoked & alive & granted & admitted
 }
 
-// "Yes is a check's value 1."
+// Yes is the value 1 (§6.13.2).
 fn yes_number(yes: bool) -> u32
     ensures { λ q. ⌜ q ≡ cond yes 1 0 ⌝ }
 {
@@ -85,7 +100,7 @@ fn yes_number(yes: bool) -> u32
 }
 
 // The answer to a check, by its session and the role and the capability that this may be on. Nothing changes, so that a caller who
-// holds the register needs nothing else.
+// holds the register needs nothing else. `decide_check` does without it: with one caller, a journal's, it costs no call there.
 pub fn answer_check(
     tick: u32,
     s: Session,
@@ -94,24 +109,30 @@ pub fn answer_check(
     columns: &[u32; 64],
     session: u32,
     permission: u32,
+    at: Context,
 ) -> Answer
-    ensures { λ q. ⌜ outcomeOf q ≡ checkAnswer tick s x c (now (columns .entry)) session permission ⌝ }
+    ensures { λ q. ⌜ outcomeOf q ≡ checkAnswer tick s x c (now (columns .entry)) session permission at ⌝ }
 {
-    let k = check_guards(s, session, permission);
-    let o = s.on;
-    let grants = granted_by(columns, o, c);
-    let yes = permitted(tick, s, x, c, grants, permission);
+    let k = check_guards(s, session, permission, at);
+    let yes = permitted(tick, s, x, c, columns, permission, at);
     answered(k, yes_number(yes))
 }
 
-pub fn decide_check(v: Slots, columns: &[u32; 64], session: u32, permission: u32) -> Decision
-    ensures { λ q. ⌜ ruledOf q ≡ checkDecision v (now (columns .entry)) session permission ⌝ }
+pub fn decide_check(
+    v: Slots,
+    columns: &[u32; 64],
+    session: u32,
+    permission: u32,
+    at: Context,
+) -> Decision
+    ensures { λ q. ⌜ ruledOf q ≡ checkDecision v (now (columns .entry)) session permission at ⌝ }
 {
     let s = v.session;
     let x = v.role;
     let c = v.capability;
-    let answer = answer_check(v.clock, s, x, c, columns, session, permission);
-    Decision { answer, slots: v }
+    let k = check_guards(s, session, permission, at);
+    let yes = permitted(v.clock, s, x, c, columns, permission, at);
+    settle(v, k, yes_number(yes), v)
 }
 
 // ---- open

@@ -274,7 +274,7 @@ checks c =
     let fit = subst (Fits _ _) (at .step2 .given .1) (s .step-of .ensures) in
     let k = keeps s (fit .0) in
     line-done (l .r) _ _ _ (fit .1) k
-    (check-done (l .r) (l .columns) _ _ _ _ _ k (l .inv .2) (role-held c .role-held .ensures, capability-held c .capability-held .ensures) (omega (arith, capability-held c .capability-held)) (c .answer-check .ensures))
+    (check-done (l .r) (l .columns) _ _ _ _ _ _ k (l .inv .2) (role-held c .role-held .ensures, capability-held c .capability-held .ensures) (omega (arith, capability-held c .capability-held)) (c .answer-check .ensures))
 
 add-to-2 : tie.Need-add-to-2 Inv-loop μ-loop
 add-to-2 c =

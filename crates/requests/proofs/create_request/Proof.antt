@@ -15,5 +15,6 @@ create-request-spec =
     (λ c. search number-fits) (λ c. search number-fits)
     (λ c. search needs) (λ c κs. search needs)
     (λ c. search create-wrong)
+    (λ c. search needs) (λ c. search needs) (λ c. search needs)
     (λ c κs. search needs) (λ c κs. search needs)
     (λ c. search create-right))

@@ -15,5 +15,6 @@ open-request-spec =
     (λ c. search two-fits) (λ c. search two-fits)
     (λ c. search needs) (λ c κs. search needs)
     (λ c. search open-wrong)
+    (λ c. search needs) (λ c. search needs) (λ c. search needs)
     (λ c κs. search needs)
     (λ c. search open-right))
