@@ -27,10 +27,12 @@ pub mod Checks
 pub mod Revokes
 pub mod ListTheorem
 pub mod Alike
+pub mod Contexts
 pub mod Edges
 pub mod Listing
 pub mod Cases
 pub mod OrderCases
+pub mod ContextCases
 pub mod JournalCases
 pub mod ImageCases
 pub mod Runs

@@ -23,10 +23,12 @@ pub mod Theorem
 pub mod Runs
 pub mod Lives
 pub mod Alike
+pub mod Contexts
 pub mod Edges
 pub mod Listing
 pub mod Cases
 pub mod OrderCases
+pub mod ContextCases
 pub mod JournalCases
 pub mod ImageCases
 pub mod EmptyImage

@@ -10,11 +10,13 @@ use Rattle.model.specs.Theorem.{ListTheorem, FreshStart, EachAnswer}
 use Rattle.model.specs.Runs.{JournalRuns, BatchesRun, EntryReturns, EntryRuns}
 use Rattle.model.specs.Lives.{LifeLaws}
 use Rattle.model.specs.Alike.{AlikeLaws}
+use Rattle.model.specs.Contexts.{ContextLaws}
 use Rattle.model.specs.EmptyImage.{EmptyImage}
 use Rattle.model.specs.Edges.{Edges}
 use Rattle.model.specs.Listing.{Listing}
 use Rattle.model.specs.Cases.{CallCases}
 use Rattle.model.specs.OrderCases.{OrderCases}
+use Rattle.model.specs.ContextCases.{ContextCases}
 use Rattle.model.specs.JournalCases.{JournalCases}
 use Rattle.model.specs.ImageCases.{ImageCases, EntryCases}
 use Rattle.image.specs.Laws.{ImageLaws}
@@ -31,6 +33,8 @@ pub record Promise : Type 2 where
   pub life-laws : LifeLaws
   -- what same tells of two capabilities, and the checks and opens on two that it finds equal (`model`, Alike.antt)
   pub alike-laws : AlikeLaws
+  -- contexts that are admitted up the lineage, and checks in one context and in others (`model`, Contexts.antt)
+  pub context-laws : ContextLaws
   -- what runs are such lists (`model`, Runs.antt): a journal, batches one after the other, and calls from C on the image kept
   pub journal-runs : JournalRuns
   pub batches-run : BatchesRun
@@ -43,9 +47,10 @@ pub record Promise : Type 2 where
   -- the worked cases E1 to E8 and the four mistakes (`model`, Edges.antt), and the listing (`model`, Listing.antt)
   pub edges : Edges
   pub listing : Listing
-  -- worked cases of what no theorem speaks of (`model`): calls, orders of refusals, lines, one image byte by byte, the entry point
+  -- worked cases of what no theorem speaks of (`model`): calls, orders of refusals, contexts of checks, lines, one image byte by byte, the entry point
   pub call-cases : CallCases
   pub order-cases : OrderCases
+  pub context-cases : ContextCases
   pub journal-cases : JournalCases
   pub image-cases : ImageCases
   pub entry-cases : EntryCases
