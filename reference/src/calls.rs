@@ -48,7 +48,7 @@ pub fn apply_trusted(register: &mut Register, request: &Request) -> Answer {
             capabilities::hand(register, user, receiver, capability)
         }
         Request::Open(ref asked) => sessions::open(register, asked),
-        Request::Check { session, permission } => sessions::check(register, session, permission),
+        Request::Check(ref asked) => sessions::check(register, asked),
         Request::Amend { user, capability, change } => {
             tree::amend(register, user, capability, change)
         }

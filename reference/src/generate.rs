@@ -1,11 +1,13 @@
 //! Generators for tests and comparisons, all driven by a seeded
 //! [`crate::random::Random`]: requests that are mostly meaningful, registers
 //! that keep the rules, damage to registers and images, and images of few bytes;
-//! and counts of the requests that meet the border of a life, or that compare
-//! capabilities which are nearly alike.
+//! and counts of the requests that meet the border of a life, compare
+//! capabilities which are nearly alike, or hang on the context that they name.
 
 pub mod borders;
+mod checks;
 pub mod comparisons;
+pub mod contexts;
 pub mod damage;
 mod draw;
 mod lives;
@@ -17,6 +19,7 @@ mod twins;
 
 pub use borders::{Border, Borders};
 pub use comparisons::Comparisons;
+pub use contexts::Contexts;
 pub use damage::{damage_image, damage_register};
 pub use profile::Profile;
 pub use registers::register;

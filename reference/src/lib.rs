@@ -21,5 +21,5 @@ pub use image::{encode, load, load_into, save};
 pub use lines::{parse, print};
 pub use refusal::Answer;
 pub use register::{Capability, Context, Origin, Register, Role, Session};
-pub use request::{Creation, Named, Opening, Request};
+pub use request::{Creation, Inquiry, Named, Opening, Request};
 pub use rules::well_formed;

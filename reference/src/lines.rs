@@ -1,7 +1,7 @@
 //! Lines (§9): bytes to a request, and an answer to bytes.
 
 use crate::refusal::Answer;
-use crate::request::{Creation, Named, Opening, Request};
+use crate::request::{Creation, Inquiry, Named, Opening, Request};
 
 /// The request of a line, given without its line feed; none if the line is
 /// malformed (§9.1). The parts between spaces are taken as they are, so that a
@@ -14,7 +14,8 @@ pub fn parse(line: &[u8]) -> Option<Request> {
         b"create" => parse_create(&rest),
         b"open" => parse_open(&rest),
         b"amend" => parse_amend(&rest),
-        b"allow" | b"lend" | b"hand" | b"check" | b"revoke" | b"close" | b"same" => {
+        b"check" => parse_check(&rest),
+        b"allow" | b"lend" | b"hand" | b"revoke" | b"close" | b"same" => {
             parse_capability_call(word, &rest)
         }
         _ => parse_administration_call(word, &rest),
@@ -59,9 +60,6 @@ fn parse_capability_call(word: &[u8], rest: &[&[u8]]) -> Option<Request> {
             receiver,
             capability,
         }),
-        b"check" => {
-            numbers(rest).map(|[session, permission]| Request::Check { session, permission })
-        }
         b"revoke" => numbers(rest).map(|[user, capability]| Request::Revoke { user, capability }),
         b"close" => numbers(rest).map(|[session]| Request::Close { session }),
         b"same" => numbers(rest).map(|[first, second]| Request::Same { first, second }),
@@ -108,6 +106,12 @@ fn parse_open(rest: &[&[u8]]) -> Option<Request> {
         place,
         device,
     }))
+}
+
+/// The arguments of check (§6.13.1).
+fn parse_check(rest: &[&[u8]]) -> Option<Request> {
+    let [session, permission, hour, place, device] = numbers(rest)?;
+    Some(Request::Check(Inquiry { session, permission, hour, place, device }))
 }
 
 /// The arguments of amend (§6.14.1).

@@ -39,6 +39,17 @@ pub struct Opening {
     pub device: u64,
 }
 
+/// The arguments of check (§6.13.1): the context is that of the moment, whatever
+/// the session was opened in.
+#[derive(Clone, Copy, Debug, PartialEq, Eq)]
+pub struct Inquiry {
+    pub session: u64,
+    pub permission: u64,
+    pub hour: u64,
+    pub place: u64,
+    pub device: u64,
+}
+
 /// One call with its arguments, in the order of §6, where a capability is
 /// named by the word `pass`.
 #[derive(Clone, Copy, Debug, PartialEq, Eq)]
@@ -55,7 +66,7 @@ pub enum Request {
     Lend { user: u64, capability: u64, roles: u64 },
     Hand { user: u64, receiver: u64, capability: u64 },
     Open(Opening),
-    Check { session: u64, permission: u64 },
+    Check(Inquiry),
     Amend { user: u64, capability: u64, change: i64 },
     Revoke { user: u64, capability: u64 },
     Close { session: u64 },
@@ -93,7 +104,7 @@ impl Request {
             Request::Lend { .. } => 9,
             Request::Hand { .. } => 10,
             Request::Open(_) => 11,
-            Request::Check { .. } => 12,
+            Request::Check(_) => 12,
             Request::Amend { .. } => 13,
             Request::Revoke { .. } => 14,
             Request::Close { .. } => 15,
@@ -124,7 +135,7 @@ impl Request {
             Request::Lend { user, capability, roles } => vec![user, capability, roles],
             Request::Hand { user, receiver, capability } => vec![user, receiver, capability],
             Request::Open(opening) => opening.arguments_mut(),
-            Request::Check { session, permission } => vec![session, permission],
+            Request::Check(inquiry) => inquiry.arguments_mut(),
             Request::Amend { user, capability, .. } => vec![user, capability],
             Request::Revoke { user, capability } => vec![user, capability],
             Request::Close { session } => vec![session],
@@ -161,6 +172,19 @@ impl Opening {
             &mut self.session,
             &mut self.user,
             self.on.number_mut(),
+            &mut self.hour,
+            &mut self.place,
+            &mut self.device,
+        ]
+    }
+}
+
+impl Inquiry {
+    /// All numbers, in the order of the line.
+    pub fn arguments_mut(&mut self) -> Vec<&mut u64> {
+        vec![
+            &mut self.session,
+            &mut self.permission,
             &mut self.hour,
             &mut self.place,
             &mut self.device,

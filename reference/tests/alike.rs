@@ -335,8 +335,8 @@ fn the_longer_life_is_told_apart() {
     }
     compares(&register, [0, 1], 0);
     accept_all(&mut register, &[&format!("clock {}", TERMS[1])]);
-    accepts(&register, "check 0 4", 0);
-    accepts(&register, "check 1 4", 1);
+    accepts(&register, "check 0 4 2 4 3", 0);
+    accepts(&register, "check 1 4 2 4 3", 1);
 }
 
 #[test]

@@ -3,12 +3,13 @@
 
 mod common;
 
+use common::contexts::{inquiry, opening};
 use common::{expect, perform};
 use reference::generate::{self, Profile};
 use reference::random::Random;
 use reference::register::has;
 use reference::{
-    apply, apply_trusted, well_formed, Capability, Origin, Register, Request, Session,
+    apply, apply_trusted, well_formed, Capability, Context, Origin, Register, Request, Session,
 };
 
 /// A random register, or one which requests made; both have twins.
@@ -137,13 +138,22 @@ fn with_sessions(register: &Register, user: u8, pair: [u8; 2]) -> Option<Registe
     Some(register)
 }
 
-/// What every check on the session is answered.
+/// What every check on the session is answered, in the context of its opening and
+/// around it.
 fn answers(register: &Register, session: u64) -> Vec<u64> {
     let mut copy = register.clone();
-    let mut check = |permission| {
-        apply_trusted(&mut copy, &Request::Check { session, permission }).expect("an open session")
+    let opening = opening(&register.sessions[session as usize]);
+    let around = [
+        opening,
+        Context { hour: (opening.hour + 1) % 24, ..opening },
+        Context { place: (opening.place + 1) % 16, ..opening },
+        Context { device: (opening.device + 1) % 16, ..opening },
+    ];
+    let mut check = |permission, context| {
+        apply_trusted(&mut copy, &inquiry(session, permission, context)).expect("an open session")
     };
-    (0..32).map(&mut check).collect()
+    let mut row = |permission| around.map(|context| check(permission, context));
+    (0..32).flat_map(&mut row).collect()
 }
 
 /// Every check on session 0 is answered as on session 1. How many are yes?

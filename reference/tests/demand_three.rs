@@ -53,6 +53,8 @@ fn lists_of_few_users() {
     assert!(tally.partial_revokes >= 20, "{tally:?}");
     assert!(tally.changed_checks >= 100, "{tally:?}");
     assert!(tally.deep_yes >= 1_000, "{tally:?}");
+    assert!(tally.yes_elsewhere >= 10_000, "{tally:?}");
+    assert!(tally.not_admitted >= 5_000, "{tally:?}");
     assert!(tally.depth >= 8, "{tally:?}");
     assert_met(&tally.borders, Border::First, [50, 45, 10]);
     assert_met(&tally.borders, Border::BeforeLast, [260, 180, 120]);

@@ -129,11 +129,11 @@ fn mistake_revoke_marks_all_below() {
     }
     let beside = format!("create 0 pass 0 9 0 0 0 100 2 9 9 {ALL}");
     accept_all(&mut register, &[&beside, "open 1 0 pass 5 9 0 0"]);
-    assert_eq!(perform(&mut register, "check 1 0"), Ok(1));
+    assert_eq!(perform(&mut register, "check 1 0 9 0 0"), Ok(1));
     assert_eq!(perform(&mut register, "revoke 0 1"), Ok(5));
     let revoked = |number: usize| register.capabilities[number].revoked;
     assert_eq!([0, 1, 2, 3, 4, 5, 6].map(revoked), [false, true, true, true, true, true, false]);
-    accepts(&register, "check 1 0", 0);
+    accepts(&register, "check 1 0 9 0 0", 0);
 }
 
 /// Another role of the creator does not count (§12.2.2).
@@ -158,7 +158,8 @@ fn mistake_withdrawn_permission_is_not_revived() {
     accept_all(&mut register, &lent);
     accept_all(&mut register, &["open 0 0 pass 0 9 0 0", "open 2 0 role 0 9 0 0"]);
     let yes = |register: &Register| {
-        ["check 0 4", "check 1 4", "check 2 4"].map(|line| perform(&mut register.clone(), line))
+        ["check 0 4 9 0 0", "check 1 4 9 0 0", "check 2 4 9 0 0"]
+            .map(|line| perform(&mut register.clone(), line))
     };
     assert_eq!(yes(&register), [Ok(1), Ok(1), Ok(1)]);
     accept_all(&mut register, &["withdraw 0 4"]);

@@ -92,7 +92,9 @@ fn calls_that_change_nothing_need_the_buffer_too() {
     let mut register = sample();
     accept_all(&mut register, &["open 0 0 role 0 9 0 0"]);
     let image = encode(&register);
-    for (line, value) in [(&b"check 0 4\n"[..], 1), (b"check 0 9\n", 0), (b"same 0 0\n", 1)] {
+    for (line, value) in
+        [(&b"check 0 4 9 0 0\n"[..], 1), (b"check 0 9 9 0 0\n", 0), (b"same 0 0\n", 1)]
+    {
         refuses(&image, line, image.len() + 1, 16);
         assert_eq!(accepts(&image, line, image.len() + 2, value), image);
         assert_eq!(accepts(&image, line, image.len() + 99, value), image);
@@ -189,8 +191,8 @@ const ON_FRESH: [(&[u8], i64, usize); 16] = [
     (b"enrol 63 7\n", 0, 27),
     (b"found 31 7 0 65535 1\n", 0, 46),
     (b"enrol 64 0\n", -2, 26),
-    (b"check 0 32\n", -2, 26),
-    (b"check 0 0\n", -3, 26),
+    (b"check 0 32 9 0 0\n", -2, 26),
+    (b"check 0 0 9 0 0\n", -3, 26),
     (b"grant 0 0\n", -3, 26),
     (b"revoke 0 0\n", -3, 26),
     (b"same 0 0\n", -3, 26),

@@ -136,7 +136,8 @@ const NOTHING: [[u64; 3]; 6] = [[0; 3]; 6];
 #[test]
 fn borders_are_counted_where_the_life_decides() {
     let mut register = with_sessions();
-    let lines = ["create 0 pass 0 9 0 0 10 10 9 9 9 1 1 1", "open 0 0 pass 0 9 0 0", "check 1 0"];
+    let lines =
+        ["create 0 pass 0 9 0 0 10 10 9 9 9 1 1 1", "open 0 0 pass 0 9 0 0", "check 1 0 9 0 0"];
     assert_eq!(counted(&register, 10, lines), only(Border::First));
     assert_eq!(counted(&register, 11, lines), only(Border::BeforeLast));
     assert_eq!(counted(&register, 12, lines), only(Border::Last));
@@ -150,7 +151,8 @@ fn borders_are_counted_where_the_life_decides() {
     register.capabilities[0].last = u32::MAX;
     assert_eq!(counted(&register, u32::MAX - 1, lines), only(Border::BeforeLast));
     assert_eq!(counted(&register, u32::MAX, lines), only(Border::LastOfAll));
-    let lines = ["create 0 role 0 9 0 0 10 10 9 9 9 1 1 1", "open 0 0 role 0 9 0 0", "check 2 0"];
+    let lines =
+        ["create 0 role 0 9 0 0 10 10 9 9 9 1 1 1", "open 0 0 role 0 9 0 0", "check 2 0 9 0 0"];
     assert_eq!(counted(&register, u32::MAX - 1, lines), NOTHING);
     assert_eq!(counted(&register, u32::MAX, lines), only(Border::RoleAtEnd));
 }
@@ -160,10 +162,10 @@ fn borders_are_counted_where_the_life_decides() {
 fn borders_are_not_counted_where_more_is_amiss() {
     let mut register = with_sessions();
     let amiss = [
-        ["create 1 pass 0 9 0 0 10 10 9 9 9 1 1 1", "open 0 1 pass 0 9 0 0", "check 1 4"],
-        ["create 0 pass 0 9 0 0 10 13 9 9 9 1 1 1", "open 1 0 pass 0 9 0 0", "check 3 0"],
-        ["create 0 pass 1 9 0 0 10 10 9 9 9 1 1 1", "open 0 0 pass 256 9 0 0", "check 64 0"],
-        ["create 1 role 0 9 0 0 10 10 9 9 9 1 1 1", "open 0 1 role 0 9 0 0", "check 2 4"],
+        ["create 1 pass 0 9 0 0 10 10 9 9 9 1 1 1", "open 0 1 pass 0 9 0 0", "check 1 4 9 0 0"],
+        ["create 0 pass 0 9 0 0 10 13 9 9 9 1 1 1", "open 1 0 pass 0 9 0 0", "check 3 0 9 0 0"],
+        ["create 0 pass 1 9 0 0 10 10 9 9 9 1 1 1", "open 0 0 pass 256 9 0 0", "check 64 0 9 0 0"],
+        ["create 1 role 0 9 0 0 10 10 9 9 9 1 1 1", "open 0 1 role 0 9 0 0", "check 2 4 9 0 0"],
     ];
     for lines in amiss {
         for tick in [10, 11, 12, u32::MAX] {

@@ -7,7 +7,7 @@ use reference::generate::{self, Profile};
 use reference::random::Random;
 use reference::request::WORDS;
 use reference::{apply_trusted, lines, parse, print};
-use reference::{Creation, Named, Opening, Register, Request};
+use reference::{Creation, Inquiry, Named, Opening, Register, Request};
 
 fn malformed(line: &str) {
     assert_eq!(parse(line.as_bytes()), None, "{line:?}");
@@ -30,7 +30,9 @@ fn each_word_takes_its_arguments_in_order() {
     parses("allow 1 2 3", Request::Allow { user: 1, capability: 2, permissions: 3 });
     parses("lend 1 2 3", Request::Lend { user: 1, capability: 2, roles: 3 });
     parses("hand 1 2 3", Request::Hand { user: 1, receiver: 2, capability: 3 });
-    parses("check 1 2", Request::Check { session: 1, permission: 2 });
+    let (hour, place, device) = (3, 4, 5);
+    let inquiry = Inquiry { session: 1, permission: 2, hour, place, device };
+    parses("check 1 2 3 4 5", Request::Check(inquiry));
     parses("amend 1 2 3", Request::Amend { user: 1, capability: 2, change: 3 });
     parses("amend 1 2 -3", Request::Amend { user: 1, capability: 2, change: -3 });
     parses("revoke 1 2", Request::Revoke { user: 1, capability: 2 });
@@ -173,7 +175,7 @@ fn arguments_are_exactly_the_calls() {
         "1 2 3",
         "1 2 3",
         "1 2 pass 3 4 5 6",
-        "1 2",
+        "1 2 3 4 5",
         "1 2 3",
         "1 2",
         "1",

@@ -30,7 +30,7 @@ fn answers(first: u32, last: u32, tick: u32) -> [Answer; 3] {
     register.sessions[63].on = Origin::Capability(0);
     register.clock = tick;
     let create = format!("create 0 pass 0 9 0 0 {first} {last} 99 99 99 {ALL}");
-    let lines = [&create, "open 0 0 pass 0 9 0 0", "check 63 4"];
+    let lines = [&create, "open 0 0 pass 0 9 0 0", "check 63 4 9 0 0"];
     lines.map(|line| perform(&mut register.clone(), line))
 }
 
@@ -81,14 +81,14 @@ fn the_last_tick_of_all_ends_capabilities_and_no_role() {
     accept_all(&mut register, &["clock 4294967294"]);
     accepts(&register, "open 3 0 pass 0 9 0 0", 0);
     accepts(&register, &create("pass 0"), 1);
-    accepts(&register, "check 1 4", 1);
+    accepts(&register, "check 1 4 9 0 0", 1);
     accept_all(&mut register, &["clock 4294967295"]);
     refuses(&register, "open 3 0 pass 0 9 0 0", 8);
     refuses(&register, &create("pass 0"), 8);
-    accepts(&register, "check 1 4", 0);
+    accepts(&register, "check 1 4 9 0 0", 0);
     accepts(&register, "open 3 0 role 0 9 0 0", 0);
     accepts(&register, &create("role 0"), 1);
-    accepts(&register, "check 2 4", 1);
+    accepts(&register, "check 2 4 9 0 0", 1);
 }
 
 #[test]
@@ -106,9 +106,9 @@ fn check_turns_at_the_last_tick_and_the_session_stays_open() {
     let mut register = with_lives(&[(0, 100)]);
     accept_all(&mut register, &["open 5 0 pass 0 9 0 0", "clock 99"]);
     let opened = register.sessions;
-    accepts(&register, "check 5 4", 1);
+    accepts(&register, "check 5 4 9 0 0", 1);
     accept_all(&mut register, &["clock 100"]);
-    accepts(&register, "check 5 4", 0);
+    accepts(&register, "check 5 4 9 0 0", 0);
     assert!(opened[5].active);
     assert_eq!(register.sessions, opened);
     refuses(&register, "open 5 0 role 0 9 0 0", 4);
@@ -161,7 +161,7 @@ fn a_lineage_ends_with_its_shortest_life() {
     for (tick, values) in [(49, [1, 1, 1]), (50, [1, 1, 0]), (99, [1, 1, 0]), (100, [0, 0, 0])] {
         accept_all(&mut register, &[&format!("clock {tick}")]);
         for (number, value) in (1..).zip(values) {
-            accepts(&register, &format!("check {number} 4"), value);
+            accepts(&register, &format!("check {number} 4 9 0 0"), value);
         }
     }
 }

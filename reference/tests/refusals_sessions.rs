@@ -62,40 +62,40 @@ fn open_on_a_role() {
 #[test]
 fn check_in_order_and_on_a_role() {
     let mut register = sample();
-    refuses(&register, "check 64 0", 2);
-    refuses(&register, "check 0 32", 2); // 3 applies too
-    refuses(&register, "check 0 0", 3);
+    refuses(&register, "check 64 0 9 0 0", 2);
+    refuses(&register, "check 0 32 9 0 0", 2); // 3 applies too
+    refuses(&register, "check 0 0 9 0 0", 3);
     accept_all(&mut register, &["open 0 0 role 0 9 0 0"]);
-    refuses(&register, "check 0 32", 2);
-    accepts(&register, "check 0 4", 1);
-    accepts(&register, "check 0 6", 0);
+    refuses(&register, "check 0 32 9 0 0", 2);
+    accepts(&register, "check 0 4 9 0 0", 1);
+    accepts(&register, "check 0 6 9 0 0", 0);
     accept_all(&mut register, &["withdraw 0 4"]);
-    accepts(&register, "check 0 4", 0);
-    accepts(&register, "check 0 5", 1);
+    accepts(&register, "check 0 4 9 0 0", 0);
+    accepts(&register, "check 0 5 9 0 0", 1);
     accept_all(&mut register, &["dismiss 0 0"]);
-    accepts(&register, "check 0 5", 0);
+    accepts(&register, "check 0 5 9 0 0", 0);
     accept_all(&mut register, &["appoint 0 0"]);
-    accepts(&register, "check 0 5", 1);
+    accepts(&register, "check 0 5 9 0 0", 1);
 }
 
 #[test]
 fn check_on_a_capability() {
     let mut register = sample();
     accept_all(&mut register, &["open 0 1 pass 0 9 0 0"]);
-    accepts(&register, "check 0 4", 1);
-    accepts(&register, "check 0 5", 0);
+    accepts(&register, "check 0 4 9 0 0", 1);
+    accepts(&register, "check 0 5 9 0 0", 0);
     accept_all(&mut register, &["lend 0 0 1", "dismiss 1 0", "amend 0 0 -4"]);
-    accepts(&register, "check 0 5", 1);
+    accepts(&register, "check 0 5 9 0 0", 1);
     let mut other = register.clone();
     other.sessions[0].user = 2; // holds nothing
-    accepts(&other, "check 0 5", 0);
+    accepts(&other, "check 0 5 9 0 0", 0);
     accept_all(&mut register, &["clock 99"]);
-    accepts(&register, "check 0 5", 1);
+    accepts(&register, "check 0 5 9 0 0", 1);
     let mut late = register.clone();
     accept_all(&mut late, &["clock 100"]);
-    accepts(&late, "check 0 5", 0);
+    accepts(&late, "check 0 5 9 0 0", 0);
     accept_all(&mut register, &["revoke 0 0"]);
-    accepts(&register, "check 0 5", 0);
+    accepts(&register, "check 0 5 9 0 0", 0);
 }
 
 #[test]
@@ -141,7 +141,7 @@ const RANGES: [(&str, &[u64]); 17] = [
     ("lend 0 0 1", &[63, 255, 0xffff_ffff]),
     ("hand 0 0 0", &[63, 63, 255]),
     ("open 0 1 pass 0 9 0 0", &[63, 63, 255, 23, 15, 15]),
-    ("check 1 0", &[63, 31]),
+    ("check 1 0 9 0 0", &[63, 31, 23, 15, 15]),
     ("amend 0 0 1", &[63, 255]),
     ("revoke 0 0", &[63, 255]),
     ("close 1", &[63]),

@@ -158,7 +158,8 @@ fn other_requests_count_nothing() {
     let mut other = TERMS;
     (other[0], other[2]) = (1, 3);
     accept_all(&mut register, &[&create(0, "role 0", other), &create(0, "role 0", TERMS)]);
-    for line in ["same 0 1", "same 0 0", "same 0 3", "same 256 0", "revoke 0 2", "check 0 2"] {
+    for line in ["same 0 1", "same 0 0", "same 0 3", "same 256 0", "revoke 0 2", "check 0 2 9 0 0"]
+    {
         assert_eq!(counted(&register, line), only(NOWHERE, [0; 3], &[]), "{line}");
     }
 }

@@ -3,7 +3,7 @@
 use super::arguments::{self, need_origin, need_session, need_usable, need_user};
 use crate::refusal::{refuse_if, Answer, AT_LIMIT, NOT_ENTITLED, NO_CHANGE};
 use crate::register::{has, Origin, Register, Session};
-use crate::request::Opening;
+use crate::request::{Inquiry, Opening};
 
 /// Opens a session: refusals by §6.12.1, what is opened and counted by §6.12.2.
 pub fn open(register: &mut Register, asked: &Opening) -> Answer {
@@ -32,15 +32,18 @@ pub fn open(register: &mut Register, asked: &Opening) -> Answer {
     Ok(0)
 }
 
-/// Asks for a permission: refusals by §6.13.1, the value by §6.13.2.
-pub fn check(register: &Register, session: u64, permission: u64) -> Answer {
-    let session = arguments::session(session)?;
-    let permission = arguments::permission(permission)?;
+/// Asks for a permission in a context: refusals by §6.13.1, the value by
+/// §6.13.2. Where the session was opened is not asked.
+pub fn check(register: &Register, asked: &Inquiry) -> Answer {
+    let session = arguments::session(asked.session)?;
+    let permission = arguments::permission(asked.permission)?;
+    let context = arguments::context(asked.hour, asked.place, asked.device)?;
     need_session(register, session)?;
     let Session { user, on, .. } = register.sessions[usize::from(session)];
     let yes = has(register.members(on), user)
         && !register.bounds(on).revoked
         && register.in_life(on)
+        && register.admits(on, context)
         && has(register.authority(on), permission);
     Ok(u64::from(yes))
 }

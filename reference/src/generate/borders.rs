@@ -82,8 +82,8 @@ fn asked(register: &Register, request: &Request) -> Option<(usize, Origin)> {
     match request {
         Request::Create(creation) => Some((0, there(register, creation.origin)?)),
         Request::Open(opening) => Some((1, there(register, opening.on)?)),
-        Request::Check { session, .. } => {
-            let session = register.sessions.get(usize::try_from(*session).ok()?)?;
+        Request::Check(inquiry) => {
+            let session = register.sessions.get(usize::try_from(inquiry.session).ok()?)?;
             session.active.then_some((2, session.on))
         }
         _ => None,
@@ -118,7 +118,7 @@ fn meets(register: &Register, request: &Request, target: Origin, border: Border)
 /// Whether the request is accepted and, if it is a check, the value is 1.
 fn granted(register: &Register, request: &Request) -> bool {
     match apply_trusted(&mut register.clone(), request) {
-        Ok(value) => value == 1 || !matches!(request, Request::Check { .. }),
+        Ok(value) => value == 1 || !matches!(request, Request::Check(_)),
         Err(_) => false,
     }
 }

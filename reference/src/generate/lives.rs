@@ -2,7 +2,6 @@
 
 use super::draw::Draw;
 use crate::register::{has, Bounds, Capability, Origin, Register, Session};
-use crate::request::Request;
 
 /// A border is near if it is at most so many ticks away.
 const NEAR: u32 = 100;
@@ -77,26 +76,9 @@ impl Draw<'_> {
         wanted.then(|| self.random.pick(&fitting))
     }
 
-    /// Any permission, or one that the session's target has; the session is in
-    /// half of the cases one on a capability at a border of its life.
-    pub fn check(&mut self) -> Request {
-        let session = match self.random.chance(1, 2) {
-            true => self.bordering_session(),
-            false => self.session(true),
-        };
-        let on = self.register.sessions.get(session as usize).map(|session| session.on);
-        let authority = self.register.authority(on.unwrap_or_default());
-        let carried = self.random.bit(authority.into());
-        let permission = match carried {
-            Some(permission) if self.random.chance(3, 4) => permission,
-            _ => self.permission(),
-        };
-        Request::Check { session, permission }
-    }
-
     /// An open session of a holder on a capability that is at a border of its
-    /// life and not revoked, or any if there is none.
-    fn bordering_session(&mut self) -> u64 {
+    /// life and not revoked, if there is one.
+    pub fn bordering_session(&mut self) -> Option<u64> {
         let fits = |place: &u64| match self.register.sessions[*place as usize] {
             Session { active: true, on: Origin::Capability(on), user, .. } => {
                 let Capability { holders, revoked, .. } = *self.register.capability(on);
@@ -105,9 +87,6 @@ impl Draw<'_> {
             _ => false,
         };
         let fitting: Vec<u64> = (0..64).filter(fits).collect();
-        match fitting.is_empty() {
-            true => self.session(true),
-            false => self.random.pick(&fitting),
-        }
+        (!fitting.is_empty()).then(|| self.random.pick(&fitting))
     }
 }

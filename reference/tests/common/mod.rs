@@ -1,6 +1,8 @@
 //! Shared by the integration tests.
 #![allow(dead_code)]
 
+pub mod contexts;
+
 use reference::generate::{Border, Borders};
 use reference::{apply, parse, well_formed, Answer, Register};
 
@@ -15,9 +17,9 @@ create 3 role 1 9 0 0 0 100 2 1 1 16777215 65535 65535
 allow 3 0 16
 hand 3 3 0
 open 5 3 pass 0 9 0 0
-check 5 4
+check 5 4 9 0 0
 revoke 3 0
-check 5 4
+check 5 4 9 0 0
 ";
 
 /// The output of the listing.

@@ -2,14 +2,13 @@
 //! step. The derivation is the test's own (§7.1.3): taken from the start and
 //! from the accepted creates, and never read off the register after that.
 
+use crate::common::contexts::{all_checks, opening, sampled};
 use reference::generate::Borders;
 use reference::image::SHORTEST;
+use reference::random::Random;
 use reference::register::has;
-use reference::{apply, apply_trusted, encode, load_into, well_formed, Answer, Capability};
-use reference::{Creation, Named, Origin, Register, Request};
-
-/// The answers to all checks: 64 sessions by 32 permissions.
-type Checks = Vec<[Answer; 32]>;
+use reference::{apply, encode, load_into, well_formed, Answer, Capability};
+use reference::{Context, Creation, Named, Origin, Register, Request, Role, Session};
 
 /// What was seen on the way, so that no claim holds for want of cases.
 #[derive(Clone, Debug, Default)]
@@ -26,6 +25,10 @@ pub struct Tally {
     pub changed_checks: u64,
     /// Checks with the value 1 on a capability derived from another one.
     pub deep_yes: u64,
+    /// Checks with the value 1 in another context than that of the opening.
+    pub yes_elsewhere: u64,
+    /// Checks with the value 0 for their context alone.
+    pub not_admitted: u64,
     /// The longest lineage.
     pub depth: usize,
     /// Requests at the borders of lives.
@@ -37,12 +40,15 @@ pub struct Monitor {
     pub register: Register,
     origins: Vec<Origin>,
     steps: u64,
+    /// For the contexts in which checks are asked.
+    random: Random,
     pub tally: Tally,
 }
 
 impl Monitor {
     pub fn new(start: Register, tally: Tally) -> Monitor {
-        let mut monitor = Monitor { register: start, origins: Vec::new(), steps: 0, tally };
+        let random = Random::new(0);
+        let mut monitor = Monitor { register: start, origins: Vec::new(), steps: 0, random, tally };
         monitor.restart();
         monitor
     }
@@ -172,24 +178,35 @@ impl Monitor {
         assert!(reached.len() <= number + 1);
     }
 
-    /// Every check against §7.2.4: yes exactly if the user holds the capability
-    /// and all on its lineage, with the role at the end, grant the permission.
+    /// Checks of all sessions and permissions, in a sample of contexts, against
+    /// §7.2.4: yes exactly if the user holds the capability and all on its
+    /// lineage, with the role at the end, grant the permission in this context.
     fn assert_checks(&mut self) {
-        let checks = all_checks(&self.register);
-        for (session, answers) in self.register.sessions.iter().zip(&checks) {
-            if !session.active {
-                assert_eq!(*answers, [Err(3); 32]);
-                continue;
+        let contexts = sampled(&mut self.random, &self.register);
+        let checks = all_checks(&self.register, &contexts);
+        for (number, session) in self.register.sessions.iter().enumerate() {
+            for (&context, answers) in contexts[number].iter().zip(&checks[number]) {
+                if !session.active {
+                    assert_eq!(*answers, [Err(3); 32]);
+                    continue;
+                }
+                let expected = self.expected(session, context);
+                let value = |permission: usize| Ok(u64::from(expected >> permission & 1));
+                assert_eq!(*answers, std::array::from_fn(value), "{session:?} in {context:?}");
+                let opened = self.expected(session, opening(session));
+                let yes = u64::from(expected.count_ones());
+                self.tally.deep_yes += yes * u64::from(self.is_deep(session.on));
+                self.tally.yes_elsewhere += yes * u64::from(context != opening(session));
+                self.tally.not_admitted += u64::from((opened & !expected).count_ones());
             }
-            let expected = match session.on {
-                Origin::Role(role) => self.appointed(role.into(), session.user),
-                Origin::Capability(number) => self.carried(number.into(), session.user),
-            };
-            let value = |permission: usize| Ok(u64::from(expected >> permission & 1));
-            assert_eq!(*answers, std::array::from_fn(value));
-            if self.is_deep(session.on) {
-                self.tally.deep_yes += u64::from(expected.count_ones());
-            }
+        }
+    }
+
+    /// The permissions for which a check on the session is to be a yes.
+    fn expected(&self, session: &Session, context: Context) -> u32 {
+        match session.on {
+            Origin::Role(role) => self.appointed(role.into(), session.user, context),
+            Origin::Capability(number) => self.carried(number.into(), session.user, context),
         }
     }
 
@@ -201,26 +218,28 @@ impl Monitor {
         matches!(self.origins[usize::from(number)], Origin::Capability(_))
     }
 
-    /// The permissions of the role, if the user is still appointed.
-    fn appointed(&self, role: usize, user: u8) -> u32 {
+    /// The permissions of the role in a context that it admits, if the user is
+    /// still appointed.
+    fn appointed(&self, role: usize, user: u8, context: Context) -> u32 {
         let role = &self.register.roles[role];
         match has(role.appointed, user) {
-            true => role.permissions,
+            true => in_context(role, context),
             false => 0,
         }
     }
 
     /// The permissions that §7.2.4 gives to the user of a session on this
-    /// capability.
-    fn carried(&self, number: usize, user: u8) -> u32 {
+    /// capability in the context.
+    fn carried(&self, number: usize, user: u8, context: Context) -> u32 {
         let (uppers, role) = self.above(number);
-        let mut carried = self.register.roles[role].permissions;
+        let mut carried = in_context(&self.register.roles[role], context);
         for at in uppers.into_iter().chain([number]) {
             let capability = &self.register.capabilities[at];
             let to_come = self.register.clock < capability.first;
             let over = capability.last <= self.register.clock;
+            let masks = [capability.hours, capability.places.into(), capability.devices.into()];
             carried &= self.authority(at);
-            if capability.revoked || to_come || over {
+            if capability.revoked || to_come || over || !admitted(masks, context) {
                 return 0;
             }
         }
@@ -247,18 +266,34 @@ impl Monitor {
         self.assert_checks();
     }
 
+    /// The same session, permission and context, just before and just after.
     fn assert_changed_checks(&mut self, marked: &[usize], before: &Register) {
-        let (earlier, later) = (all_checks(before), all_checks(&self.register));
+        let contexts = sampled(&mut self.random, before);
+        let earlier = all_checks(before, &contexts);
+        let later = all_checks(&self.register, &contexts);
         for (number, session) in before.sessions.iter().enumerate() {
             let on_marked = session.active
                 && matches!(session.on, Origin::Capability(n) if marked.contains(&n.into()));
-            for permission in 0..32 {
-                let asked = (earlier[number][permission], later[number][permission]);
-                let yes_lost = on_marked && asked.0 == Ok(1);
-                assert_eq!(asked.0 != asked.1, yes_lost);
+            for (old, new) in earlier[number].iter().flatten().zip(later[number].iter().flatten()) {
+                let yes_lost = on_marked && *old == Ok(1);
+                assert_eq!(old != new, yes_lost);
                 self.tally.changed_checks += u64::from(yes_lost);
             }
         }
+    }
+}
+
+/// Whether the masks have hour, place and device, worked out again (§3.3.4).
+fn admitted(masks: [u32; 3], context: Context) -> bool {
+    let Context { hour, place, device } = context;
+    masks[0] >> hour & masks[1] >> place & masks[2] >> device & 1 == 1
+}
+
+/// The permissions of the role, if it admits the context.
+fn in_context(role: &Role, context: Context) -> u32 {
+    match admitted([role.hours, role.places.into(), role.devices.into()], context) {
+        true => role.permissions,
+        false => 0,
     }
 }
 
@@ -281,16 +316,4 @@ fn assert_within(lower: &Capability, upper: &Capability) {
     assert!(lower.creation_limit <= upper.creation_limit);
     assert!(lower.hop_limit <= upper.hop_limit);
     assert!(lower.revoked || !upper.revoked);
-}
-
-/// All 64 x 32 checks, asked of a copy which they must not change.
-fn all_checks(register: &Register) -> Checks {
-    let mut copy = register.clone();
-    let mut ask = |session: u64, permission: u64| {
-        apply_trusted(&mut copy, &Request::Check { session, permission })
-    };
-    let mut row = |session| std::array::from_fn(|permission| ask(session, permission as u64));
-    let checks = (0..64).map(&mut row).collect();
-    assert_eq!(copy, *register);
-    checks
 }
