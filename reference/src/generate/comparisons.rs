@@ -63,8 +63,7 @@ impl Comparisons {
     /// Two capabilities differ in the number at this place alone, and there in
     /// these bits.
     fn add_decided(&mut self, place: usize, bits: u64) {
-        let highest = 0xff << (WIDTHS[place] - 8);
-        let met = [true, bits & !0xff == 0, bits & !highest == 0];
+        let met = [true, bits & !0xff == 0, in_highest_byte(place, bits)];
         for (count, met) in self.decided[place].iter_mut().zip(met) {
             *count += u64::from(met);
         }
@@ -87,6 +86,11 @@ impl Comparisons {
     pub fn balanced(&self, place: usize) -> u64 {
         self.balanced[place]
     }
+}
+
+/// Whether these bits of the number at this place are all in its highest byte.
+pub(super) fn in_highest_byte(place: usize, bits: u64) -> bool {
+    bits & !(0xff << (WIDTHS[place] - 8)) == 0
 }
 
 /// The two capabilities which a same names, if they are there.

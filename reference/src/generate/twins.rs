@@ -2,7 +2,7 @@
 //! all but one number, which those drawn apart from each other hardly do.
 
 use super::comparisons::{
-    balanced, differing, disregarded, gap, Gap, BALANCED, DISREGARDED, WIDTHS,
+    balanced, differing, disregarded, gap, in_highest_byte, Gap, BALANCED, DISREGARDED, WIDTHS,
 };
 use super::draw::Draw;
 use crate::random::Random;
@@ -225,10 +225,26 @@ impl Draw<'_> {
             return any;
         }
         let kind = self.random.below(kinds.len() as u64) as usize;
-        let [first, second] = self.random.pick(&kinds[kind]);
+        let [first, second] = self.picked(&kinds[kind]);
         match self.random.chance(1, 2) {
             true => Request::Same { first, second },
             false => Request::Same { first: second, second: first },
+        }
+    }
+
+    /// One of the pairs, in half of the cases one that differs in the highest byte
+    /// of a number alone, if there is one: few do.
+    fn picked(&mut self, pairs: &[[u64; 2]]) -> [u64; 2] {
+        let all = self.compared();
+        let high = |pair: &&[u64; 2]| {
+            let [lower, upper] = pair.map(|number| &all[number as usize]);
+            let differs = |place| in_highest_byte(place, lower[place] ^ upper[place]);
+            matches!(gap(lower, upper), Gap::At(place) if differs(place))
+        };
+        let highest: Vec<[u64; 2]> = pairs.iter().filter(high).copied().collect();
+        match highest.is_empty() || self.random.chance(1, 2) {
+            true => self.random.pick(pairs),
+            false => self.random.pick(&highest),
         }
     }
 
