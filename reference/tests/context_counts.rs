@@ -109,9 +109,9 @@ fn other_checks_count_nothing() {
 }
 
 /// How often the requests of a profile must do it, in the order of [`KINDS`] and
-/// of [`WHOLES`]. In long chains hardly a role leaves out two numbers.
-const LEAST: [u64; KINDS.len()] = [4, 40, 15, 30, 80, 10, 15, 10, 25, 12, 14];
-const LEAST_WHOLES: [u64; WHOLES.len()] = [40, 130, 0, 25, 0, 4];
+/// of [`WHOLES`]. In long chains hardly a role leaves out more than one.
+const LEAST: [u64; KINDS.len()] = [6, 60, 23, 40, 80, 12, 30, 19, 30, 25, 24];
+const LEAST_WHOLES: [u64; WHOLES.len()] = [80, 150, 1, 28, 0, 1];
 
 fn assert_often(met: &[u64], least: &[u64], what: &str) {
     let enough = met.iter().zip(least).all(|(met, least)| met >= least);

@@ -87,8 +87,8 @@ impl Draw<'_> {
         }
     }
 
-    /// Replaces so many numbers, where the masks of the target leave some out: in
-    /// half of the cases by one that its origin admits.
+    /// Replaces so many numbers, where the masks of the target leave some out:
+    /// mostly by one that its origin admits.
     fn move_out(&mut self, opened: &Session, context: &mut [u64; 3], count: usize) {
         let own = masks(self.register, opened.on);
         let above = match opened.on {
@@ -101,7 +101,7 @@ impl Draw<'_> {
         let mut left = count;
         for part in [first, (first + 1) % 3, (first + 2) % 3] {
             let outside = ((1 << ENDS[part]) - 1) & !own[part];
-            let between = match self.random.chance(1, 2) {
+            let between = match self.random.chance(7, 8) {
                 true => outside & above[part],
                 false => 0,
             };

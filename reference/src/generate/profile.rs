@@ -38,7 +38,7 @@ impl Profile {
             wild: 30,
             narrow: 6,
             twins: 4,
-            weights: [1, 1, 3, 2, 3, 2, 4, 14, 16, 7, 14, 14, 8, 8, 3, 6, 10],
+            weights: [1, 1, 3, 2, 3, 2, 4, 14, 16, 7, 14, 14, 12, 8, 3, 6, 12],
         }
     }
 
@@ -46,7 +46,7 @@ impl Profile {
     /// thousand requests fill the register.
     pub fn crowded() -> Profile {
         Profile {
-            weights: [1, 1, 2, 1, 1, 1, 1, 40, 24, 10, 24, 12, 4, 6, 1, 6, 8],
+            weights: [1, 1, 2, 1, 1, 1, 1, 40, 24, 10, 24, 12, 8, 6, 1, 6, 10],
             ..Profile::small()
         }
     }
@@ -57,7 +57,7 @@ impl Profile {
         Profile {
             narrow: 1,
             twins: 2,
-            weights: [1, 1, 2, 1, 1, 1, 1, 14, 30, 8, 30, 12, 4, 6, 1, 6, 8],
+            weights: [1, 1, 2, 1, 1, 1, 1, 14, 30, 8, 30, 12, 8, 6, 1, 6, 10],
             ..Profile::small()
         }
     }
@@ -73,7 +73,7 @@ impl Profile {
             wild: 30,
             narrow: 6,
             twins: 4,
-            weights: [4, 4, 12, 3, 8, 3, 2, 20, 18, 8, 20, 24, 8, 8, 3, 6, 10],
+            weights: [4, 4, 12, 3, 8, 3, 2, 20, 18, 8, 20, 24, 12, 8, 3, 6, 12],
         }
     }
 
