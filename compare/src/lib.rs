@@ -5,6 +5,7 @@
 pub mod answers;
 pub mod borders;
 pub mod comparisons;
+pub mod contexts;
 pub mod met;
 pub mod registers;
 pub mod requests;

@@ -2,21 +2,24 @@
 
 use crate::requests::request_of;
 use crate::tally::Tally;
-use crate::{borders, comparisons};
+use crate::{borders, comparisons, contexts};
 use reference::generate::{Borders, Comparisons};
 use reference::Register;
 
-/// The ticks where a life begins or ends, and pairs that are nearly alike.
+/// The ticks where a life begins or ends, pairs that are nearly alike, and
+/// contexts that decide.
 #[derive(Default)]
 pub struct Met {
     borders: Borders,
     comparisons: Comparisons,
+    contexts: contexts::Met,
 }
 
 /// How often they must be met.
 pub struct Least {
     pub borders: borders::Least,
     pub comparisons: comparisons::Least,
+    pub contexts: contexts::Least,
 }
 
 impl Least {
@@ -25,6 +28,7 @@ impl Least {
         Least {
             borders: self.borders.map(|row| row.map(|least| factor * least)),
             comparisons: self.comparisons.times(factor),
+            contexts: self.contexts.times(factor),
         }
     }
 }
@@ -32,15 +36,18 @@ impl Least {
 impl Met {
     /// Counts what the line meets on the register, before it is performed.
     pub fn add(&mut self, register: &Register, line: &[u8]) {
-        if let Some(request) = request_of(line) {
-            self.borders.add(register, &request);
-            self.comparisons.add(register, &request);
-        }
+        let Some(request) = request_of(line) else {
+            return self.contexts.add_malformed(line);
+        };
+        self.borders.add(register, &request);
+        self.comparisons.add(register, &request);
+        self.contexts.contexts.add(register, &request);
     }
 
     /// Prints the counts, and makes a failure of each that is too small.
     pub fn require(&self, tally: &mut Tally, least: &Least) {
         borders::require(tally, &self.borders, &least.borders);
         comparisons::require(tally, &self.comparisons, &least.comparisons);
+        self.contexts.require(tally, &least.contexts);
     }
 }

@@ -5,6 +5,7 @@
 //! where each journal counts once.
 
 use compare::comparisons;
+use compare::contexts;
 use compare::met::{Least, Met};
 use compare::requests::{follow, line, PROFILES};
 use compare::tally::Tally;
@@ -14,8 +15,9 @@ use reference::Register;
 use std::io::{self, Write};
 use std::process::{Command, ExitCode, Stdio};
 
-/// How often each 300 journals must meet the borders of lives, and pairs that are
-/// nearly alike. No journal opens a session on a life without a tick.
+/// How often each 300 journals must meet the borders of lives, pairs that are nearly
+/// alike, and contexts that decide. No journal opens a session on a life without a
+/// tick.
 const LEAST: Least = Least {
     borders: [
         [100, 55, 12],   // the first tick
@@ -40,6 +42,15 @@ const LEAST: Least = Least {
         ],
         disregarded: [580, 580, 13, 260, 180, 720, 340, 520, 400, 120],
         balanced: [25, 20, 28],
+    },
+    contexts: contexts::Least {
+        parts: [
+            [55, 50, 20, 90, 80, 25, 25, 30, 80, 40, 40], // hour
+            [85, 65, 20, 85, 80, 35, 35, 25, 75, 35, 55], // place
+            [75, 60, 30, 90, 80, 40, 35, 30, 80, 30, 50], // device
+        ],
+        wholes: [170, 130, 30, 45, 1, 10],
+        arguments: [85, 95, 130, 95],
     },
 };
 

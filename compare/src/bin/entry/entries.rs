@@ -7,6 +7,7 @@ use crate::library::{Areas, LARGEST, ROOMY};
 use crate::malformed::malformed;
 use compare::answers::Answers;
 use compare::comparisons;
+use compare::contexts;
 use compare::met::{Least, Met};
 use compare::registers::varied;
 use compare::requests::{follow, line, PROFILES};
@@ -27,8 +28,8 @@ const LINES: usize = 50;
 /// Lines of a batch on an image without bytes.
 const ON_NO_BYTES: usize = 24;
 
-/// How often the lines must meet the borders of lives, and pairs that are nearly
-/// alike.
+/// How often the lines must meet the borders of lives, pairs that are nearly alike,
+/// and contexts that decide.
 const LEAST: Least = Least {
     borders: [
         [30, 14, 3],  // the first tick
@@ -53,6 +54,15 @@ const LEAST: Least = Least {
         ],
         disregarded: [185, 175, 9, 55, 55, 200, 140, 155, 145, 24],
         balanced: [4, 3, 6],
+    },
+    contexts: contexts::Least {
+        parts: [
+            [7, 18, 8, 11, 15, 2, 6, 14, 35, 20, 20],  // hour
+            [8, 15, 5, 14, 17, 4, 11, 11, 30, 20, 25], // place
+            [7, 12, 3, 12, 16, 6, 8, 7, 35, 20, 20],   // device
+        ],
+        wholes: [20, 45, 6, 13, 0, 5],
+        arguments: [45, 55, 70, 60],
     },
 };
 

@@ -5,6 +5,7 @@
 use crate::library::{Areas, ROOMY};
 use compare::answers::Answers;
 use compare::comparisons;
+use compare::contexts;
 use compare::met::{Least, Met};
 use compare::requests::{follow, line, PROFILES};
 use compare::tally::Tally;
@@ -29,8 +30,8 @@ const LEAST_PLACES: u64 = 130;
 const LEAST_WITHOUT_BYTES: without_bytes::Least =
     without_bytes::Least { accepted: 110, refused_by_call: 130, malformed: 25, area_too_short: 0 };
 
-/// How often the lists must meet the borders of lives, and pairs that are nearly
-/// alike. Seldom a session is open on a life without a tick.
+/// How often the lists must meet the borders of lives, pairs that are nearly alike,
+/// and contexts that decide. Seldom a session is open on a life without a tick.
 const LEAST: Least = Least {
     borders: [
         [50, 40, 8],     // the first tick
@@ -55,6 +56,15 @@ const LEAST: Least = Least {
         ],
         disregarded: [900, 840, 55, 440, 260, 1060, 640, 780, 700, 200],
         balanced: [40, 38, 55],
+    },
+    contexts: contexts::Least {
+        parts: [
+            [75, 75, 20, 95, 85, 25, 19, 20, 70, 30, 35], // hour
+            [65, 75, 25, 85, 90, 35, 45, 25, 65, 30, 35], // place
+            [55, 70, 20, 85, 95, 30, 35, 25, 75, 30, 35], // device
+        ],
+        wholes: [150, 170, 25, 40, 2, 20],
+        arguments: [70, 100, 110, 80],
     },
 };
 
