@@ -65,7 +65,7 @@ empty() {
 # a new client of which every line is refused is saved too, and goes on from there
 all_refused() {
   start
-  client --new "$reg" 'check 0 0' 'enrol 3' | numbers | cmp - <(printf 'no 3\nno 1\n') &&
+  client --new "$reg" 'check 0 0 9 0 0' 'enrol 3' | numbers | cmp - <(printf 'no 3\nno 1\n') &&
     head -c 26 /dev/zero | cmp - "$reg" && client "$reg" 'enrol 3 0' | cmp - <(echo ok 0)
 }
 

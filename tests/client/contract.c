@@ -52,7 +52,7 @@ static void check_new_client(struct tally *tally)
           "an image of length 0 somewhere");
     check(tally, refuses_text(none, "clock 0\n", FELLUNQA_IMAGE_MIN + 1, 16), "a new client has 26 bytes");
     check(tally, refuses_text(none, "clock 0\n", 0, 16), "a new client has no room in no area");
-    check(tally, refuses_text(none, "check 0 0\n", 0, 3), "a new client has no session");
+    check(tally, refuses_text(none, "check 0 0 9 0 0\n", 0, 3), "a new client has no session");
     check(tally, refuses_text(none, "enrol 9", 0, 1), "a new client and no line");
     int holds = 1;
     for (size_t length = 1; length <= 64; length++) {
@@ -176,7 +176,8 @@ static void check_room(struct tally *tally, struct block small, struct block lar
     play(&after, "enrol 9 0\n");
     check(tally, after.length == small.length + 1, "a user takes one byte");
     check(tally, fits_exactly(small, "enrol 9 0\n", 0, after, 0), "the area fits from the new image and 2 bytes on");
-    check(tally, fits_exactly(small, "check 5 4\n", 1, small, 0), "a call that changes nothing needs the same area");
+    check(tally, fits_exactly(small, "check 5 4 9 0 0\n", 1, small, 0),
+          "a call that changes nothing needs the same area");
     check(tally, accepts(small, "enrol 9 0\n", FELLUNQA_AREA_MAX + 1000, 0, after),
           "a larger area is untouched after the image");
     check(tally, large.length == 13400, "the longest image has 13,400 bytes");
@@ -192,10 +193,25 @@ static void check_values(struct tally *tally, struct block small, struct block l
     check(tally, play(&all, "revoke 0 0\n") == 256, "revoke marks the whole tree");
     check(tally, play(&half, "enrol 9 0\n") == 0 && play(&half, "enrol 9 0\n") == -4,
           "the new image is the next register");
-    check(tally, accepts(small, "check 5 4\n", FELLUNQA_AREA_MAX, 1, small), "a check leaves the register");
-    check(tally, play(&half, "dismiss 3 1\n") == 0 && play(&half, "check 5 4\n") == 0, "a check's value may be 0");
+    check(tally, accepts(small, "check 5 4 9 0 0\n", FELLUNQA_AREA_MAX, 1, small), "a check leaves the register");
+    check(tally, play(&half, "dismiss 3 1\n") == 0 && play(&half, "check 5 4 9 0 0\n") == 0,
+          "a check's value may be 0");
     free(all.at);
     free(half.at);
+}
+
+/* Role 2 admits hour 0 alone. */
+static void check_contexts(struct tally *tally, struct block small)
+{
+    struct block moved = copy(small.at, small.length);
+    check(tally, play(&moved, "grant 2 4\n") == 0 && play(&moved, "open 6 3 role 2 0 0 0\n") == 0, "a second session");
+    check(tally, accepts(moved, "check 6 4 0 0 0\n", FELLUNQA_AREA_MAX, 1, moved), "a check where it was opened");
+    check(tally, accepts(moved, "check 6 4 0 15 15\n", FELLUNQA_AREA_MAX, 1, moved), "a check elsewhere");
+    check(tally, accepts(moved, "check 6 4 1 0 0\n", FELLUNQA_AREA_MAX, 0, moved), "a check at another hour");
+    check(tally, refuses_text(moved, "check 6 4 24 0 0\n", FELLUNQA_AREA_MAX, 2), "an hour out of range");
+    check(tally, refuses_text(moved, "check 7 4 0 16 0\n", FELLUNQA_AREA_MAX, 2), "2 comes before 3");
+    check(tally, refuses_text(moved, "check 6 4\n", FELLUNQA_AREA_MAX, 1), "a check without a context gets 1");
+    free(moved.at);
 }
 
 static void check_state(struct tally *tally, struct block small)
@@ -300,6 +316,7 @@ int main(void)
     check_lines(&tally, small);
     check_room(&tally, small, large);
     check_values(&tally, small, large);
+    check_contexts(&tally, small);
     check_state(&tally, small);
     check_alignment(&tally, small);
     check_threads(&tally, small, large);
