@@ -15,6 +15,9 @@ struct shop {
 
 /* pass p is in life (§3.3.2) */
 #define IN_LIFE "EXISTS (SELECT 1 FROM clock WHERE p.first <= tick AND tick < p.last)"
+/* a role or pass admits a context (§3.3.4); shifts bind no tighter than & in SQLite */
+#define ADMITS(on, hour, place, device)                                                                              \
+    "((" on ".hours >> " hour ") & (" on ".places >> " place ") & (" on ".devices >> " device ") & 1)"
 
 static const char *const texts[STATEMENTS] = {
     [BEGIN] = "BEGIN",
@@ -35,7 +38,7 @@ static const char *const texts[STATEMENTS] = {
         " WHEN NOT EXISTS (SELECT 1 FROM holder WHERE pass = p.id AND user = ?2) THEN 6"
         " WHEN p.revoked THEN 7"
         " WHEN NOT " IN_LIFE " THEN 8"
-        " WHEN NOT (p.hours >> ?4 & p.places >> ?5 & p.devices >> ?6 & 1) THEN 9"
+        " WHEN NOT " ADMITS("p", "?4", "?5", "?6") " THEN 9"
         " WHEN p.uses >= p.use_limit THEN 10"
         " ELSE 0 END FROM pass p WHERE p.id = ?3",
     [ENTER] = "INSERT INTO session VALUES (?1, ?2, NULL, ?3, ?4, ?5, ?6)",
@@ -48,7 +51,7 @@ static const char *const texts[STATEMENTS] = {
         "   WHERE l.pass = p.id AND r.permissions & 1)) THEN 6"
         " WHEN p.revoked THEN 7"
         " WHEN NOT " IN_LIFE " THEN 8"
-        " WHEN NOT (p.hours >> ?3 & p.places >> ?4 & p.devices >> ?5 & 1) THEN 9"
+        " WHEN NOT " ADMITS("p", "?3", "?4", "?5") " THEN 9"
         " WHEN p.creations >= p.creation_limit THEN 10"
         " WHEN ?6 < p.first OR ?7 > p.last OR ?8 > p.use_limit OR ?9 > p.creation_limit OR ?10 > p.hop_limit"
         "   OR ?11 & ~p.hours OR ?12 & ~p.places OR ?13 & ~p.devices THEN 11"
