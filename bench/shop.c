@@ -22,12 +22,12 @@ struct shop {
 static const char *const texts[STATEMENTS] = {
     [BEGIN] = "BEGIN",
     [COMMIT] = "COMMIT",
-    /* session, permission */
+    /* session, permission, hour, place, device */
     [CHECK] =
         "SELECT CASE WHEN s.pass IS NULL"
-        " THEN (SELECT r.permissions >> ?2 & 1 FROM role r JOIN appointed a ON a.role = r.id AND a.user = s.user"
-        "   WHERE r.id = s.role)"
-        " ELSE (SELECT " IN_LIFE " AND (p.permissions >> ?2 & 1 OR"
+        " THEN (SELECT r.permissions >> ?2 & 1 AND " ADMITS("r", "?3", "?4", "?5")
+        "   FROM role r JOIN appointed a ON a.role = r.id AND a.user = s.user WHERE r.id = s.role)"
+        " ELSE (SELECT " IN_LIFE " AND " ADMITS("p", "?3", "?4", "?5") " AND (p.permissions >> ?2 & 1 OR"
         "   EXISTS (SELECT 1 FROM lent l JOIN role r ON r.id = l.role WHERE l.pass = p.id AND r.permissions >> ?2 & 1))"
         "   FROM pass p JOIN holder h ON h.pass = p.id AND h.user = s.user WHERE p.id = s.pass AND NOT p.revoked)"
         " END FROM session s WHERE s.id = ?1",
@@ -100,7 +100,7 @@ static int64_t number(struct shop *shop, int at, const int64_t *arguments) {
     return answer;
 }
 
-/* session, permission */
+/* session, permission, hour, place, device */
 int64_t shop_check(struct shop *shop, const int64_t *arguments) {
     return number(shop, CHECK, arguments);
 }

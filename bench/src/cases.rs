@@ -29,7 +29,7 @@ impl Case {
 /// Two reads, two small changes, a creation and the revocation of both trees.
 pub fn calls() -> Vec<Case> {
     let mut cases = vec![
-        Case::new("fresh: check (refused, 3)", Register::fresh(), "check 0 4"),
+        Case::new("fresh: check (refused, 3)", Register::fresh(), "check 0 4 9 0 0"),
         Case::new("fresh: enrol", Register::fresh(), "enrol 3 0"),
         Case { image: Vec::new(), ..Case::new("no bytes: enrol", Register::fresh(), "enrol 3 0") },
     ];
@@ -40,18 +40,13 @@ pub fn calls() -> Vec<Case> {
 }
 
 fn calls_on(name: &str, size: Size) -> Vec<Case> {
-    let mut cases = vec![
-        check(name, size),
-        same(name, size),
-        open(name, size),
-        hand(name, size),
-    ];
+    let mut cases = vec![check(name, size), same(name, size), open(name, size), hand(name, size)];
     cases.extend(changes(name, size));
     cases
 }
 
 fn check(name: &str, size: Size) -> Case {
-    let line = format!("check {} 4", size.sessions - 1);
+    let line = format!("check {} 4 9 0 0", size.sessions - 1);
     Case::new(&format!("{name}: check"), grown(size, Shape::Deep), &line)
 }
 

@@ -10,7 +10,7 @@ use std::io;
 use std::path::Path;
 
 /// The checks of the journal `full-checks`, which otherwise is `full`.
-pub const CHECKS: usize = 1_500;
+pub const CHECKS: usize = 950;
 /// The journals by name; the random ones have the names of their profiles.
 pub const NAMES: [&str; 8] =
     ["empty", "checks", "creates", "small", "crowded", "deep", "wide", "wild"];
@@ -59,7 +59,7 @@ fn checks() -> Vec<u8> {
     for turn in 0..400 {
         let session = turn % 64;
         lines.push(format!("open {session} 3 pass {} 9 0 0", turn % 32));
-        lines.extend((0..8).map(|permission| format!("check {session} {permission}")));
+        lines.extend((0..8).map(|permission| format!("check {session} {permission} 9 0 0")));
         lines.push(format!("close {session}"));
     }
     cut(lines)
@@ -81,7 +81,7 @@ fn full(checks: usize) -> Vec<u8> {
     add_pass(&mut lines, 0, Shape::Deep);
     lines.extend((1..256).map(|_| creation(0, Shape::Deep)));
     lines.push("open 1 3 pass 0 9 0 0".to_string());
-    lines.extend((0..checks).map(|_| "check 1 4".to_string()));
+    lines.extend((0..checks).map(|_| "check 1 4 9 0 0".to_string()));
     cut(lines)
 }
 

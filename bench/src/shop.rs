@@ -80,8 +80,10 @@ impl Contender for Shop {
 /// The function, its arguments, and what takes the call back.
 fn call(request: &Request) -> Option<(Function, Vec<i64>, String)> {
     match *request {
-        Request::Check { session, permission } => {
-            Some((shop_check, vec![session as i64, permission as i64], String::new()))
+        Request::Check(_) => {
+            let mut copy = *request;
+            let arguments = copy.arguments_mut().into_iter().map(|&mut number| number as i64);
+            Some((shop_check, arguments.collect(), String::new()))
         }
         Request::Open(Opening { session, on: Named::Capability(pass), .. }) => {
             let mut copy = *request;
