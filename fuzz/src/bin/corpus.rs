@@ -5,14 +5,14 @@ use fuzz::input::{Input, ANY, EXACT, JUST, LARGEST, NULL, SHORT};
 use reference::generate::{damage_image, request, requests, Profile};
 use reference::random::Random;
 use reference::request::WORDS;
-use reference::{apply_trusted, encode, lines, Register, Request};
+use reference::{apply_trusted, encode, lines, Inquiry, Register, Request};
 use std::path::Path;
 use std::{env, fs, io};
 
 /// Lines that make the small register.
 const LINES: usize = 150;
 const DAMAGED: usize = 10;
-const MALFORMED: [&str; 12] = [
+const MALFORMED: [&str; 14] = [
     "",
     "\n",
     "clock 7",
@@ -25,6 +25,8 @@ const MALFORMED: [&str; 12] = [
     "clock 4294967296\n",
     "amend 0 0 -0\n",
     "open 0 0 rol 0 0 0 0\n",
+    "check 0 0\n",
+    "check 0 0 0 0 0 0\n",
 ];
 /// Modes and values for areas.
 const AREAS: [(u8, u8); 8] = [
@@ -43,7 +45,7 @@ const WITHOUT_BYTES: [(u8, u8, &str); 4] = [
     (EXACT, JUST, "enrol 3 0\n"),
     (EXACT | NULL, JUST, "enrol 3 0\n"),
     (EXACT | NULL, JUST - 1, "clock 7\n"),
-    (EXACT | NULL, JUST, "check 0 0\n"),
+    (EXACT | NULL, JUST, "check 0 0 9 0 0\n"),
 ];
 
 fn main() -> io::Result<()> {
@@ -80,9 +82,38 @@ fn inputs(random: &mut Random) -> Vec<(String, Input)> {
     }
     for (number, (mode, value, line)) in WITHOUT_BYTES.into_iter().enumerate() {
         let line = line.as_bytes().to_vec();
-        inputs.push((format!("without-bytes-{number}"), Input { mode, value, image: Vec::new(), line }));
+        inputs.push((
+            format!("without-bytes-{number}"),
+            Input { mode, value, image: Vec::new(), line },
+        ));
     }
+    inputs.extend(checks(random, &small));
     inputs
+}
+
+/// A check that is a yes, and the same with each number of its context beyond
+/// its range.
+fn checks(random: &mut Random, small: &Register) -> Vec<(String, Input)> {
+    let yes = loop {
+        match request(random, small, &Profile::small()) {
+            Request::Check(asked)
+                if apply_trusted(&mut small.clone(), &Request::Check(asked)) == Ok(1) =>
+            {
+                break asked;
+            }
+            _ => (),
+        }
+    };
+    let beyond = [
+        ("yes", yes),
+        ("hour", Inquiry { hour: 24, ..yes }),
+        ("place", Inquiry { place: 16, ..yes }),
+        ("device", Inquiry { device: 16, ..yes }),
+    ];
+    let named = |(name, asked)| {
+        (format!("check-{name}"), input(small, &lines::write(&Request::Check(asked))))
+    };
+    beyond.map(named).into()
 }
 
 /// An input with an area that is just long enough.
