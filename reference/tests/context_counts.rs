@@ -7,7 +7,7 @@ use common::after;
 use reference::generate::contexts::{KINDS, PARTS, WHOLES};
 use reference::generate::{self, Contexts, Profile};
 use reference::random::Random;
-use reference::{apply_trusted, parse, Register};
+use reference::{apply_trusted, parse, Register, Request};
 
 /// Role 0 leaves out hour 20, place 12 and device 13; capability 0 on it leaves
 /// out hours 0 to 3, place 2 and device 3 as well. Session 0 is on the role, and
@@ -137,5 +137,25 @@ fn requests_of_every_profile_hang_on_contexts() {
         }
         let wholes: [u64; WHOLES.len()] = std::array::from_fn(|place| contexts.whole(place));
         assert_often(&wholes, &LEAST_WHOLES, &format!("{seed}, whole"));
+    }
+}
+
+/// Most checks ask where the answer may be a yes, and a good part of them gets it.
+#[test]
+fn many_checks_are_still_a_yes() {
+    let mut random = Random::new(95);
+    for profile in [Profile::small(), Profile::crowded(), Profile::deep(), Profile::wide()] {
+        let (mut yes, mut answered) = (0, 0);
+        for _ in 0..100 {
+            let mut register = Register::fresh();
+            for request in generate::requests(&mut random, &register, &profile, 800) {
+                let answer = apply_trusted(&mut register, &request);
+                if let (Request::Check(_), Ok(value)) = (request, answer) {
+                    yes += value;
+                    answered += 1;
+                }
+            }
+        }
+        assert!(3 * yes >= answered, "{yes} of {answered}: {profile:?}");
     }
 }
