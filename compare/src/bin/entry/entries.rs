@@ -29,7 +29,8 @@ const LINES: usize = 50;
 const ON_NO_BYTES: usize = 24;
 
 /// How often the lines must meet the borders of lives, pairs that are nearly alike,
-/// and contexts that decide.
+/// and contexts that decide. Hardly a session is on a role that leaves out all three
+/// of its numbers.
 const LEAST: Least = Least {
     borders: [
         [30, 14, 3],  // the first tick
