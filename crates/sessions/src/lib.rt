@@ -88,8 +88,8 @@ fn permitted(
     let entitled = member_in(o, x, c, s.user as u32);
     let alive = alive_in(o, c, tick);
     let granted = member(t.grants as u64, permission);
-    let admitted = admits(t, at);
-    entitled & !t.revoked & alive & granted & admitted
+    let here = admits(t, at);
+    entitled & !t.revoked & alive & granted & here
 }
 
 // Yes is the value 1 (§6.13.2).
