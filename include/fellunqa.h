@@ -33,9 +33,9 @@
  * image does not say its version: keep this text beside it, and see CHANGELOG.md before a library of another second
  * number reads it.
  */
-#define FELLUNQA_VERSION "0.4.0"
+#define FELLUNQA_VERSION "0.5.0"
 #define FELLUNQA_VERSION_MAJOR 0
-#define FELLUNQA_VERSION_MINOR 4
+#define FELLUNQA_VERSION_MINOR 5
 #define FELLUNQA_VERSION_PATCH 0
 
 #ifdef __cplusplus
