@@ -17,13 +17,13 @@ use Rattle.model.specs.declared.Origin.the-variants.{Capability as ofCap
 use Rattle.model.specs.declared.Capability.{Capability}
 use Rattle.model.specs.declared.Register.{Register}
 use Rattle.model.specs.declared.Context.{Context}
-use Rattle.model.specs.State.{terms, admitted, originAt, sessionAt}
+use Rattle.model.specs.State.{terms, admitted, originAt}
 use Rattle.model.specs.Lineage.{root, ending, Descends, Reaches, last-step, one-step}
-use Rattle.model.specs.Rules.{isCapability, isSession, isPermission, wellFormed}
+use Rattle.model.specs.Rules.{isCapability, wellFormed}
 use Rattle.model.specs.Setters.{withClock}
-use Rattle.model.specs.Rulings.{Outcome, value, refused, Effect, Guard, _unless_, _when_, verdict, role, capability, opened}
+use Rattle.model.specs.Rulings.{Outcome, value, refused, Effect, Guard, _unless_, _when_, verdict, role, capability}
 use Rattle.model.specs.Administration.{clockRuling}
-use Rattle.model.specs.Sessions.{openRuling, permits, checkRuling}
+use Rattle.model.specs.Sessions.{openRuling, permits}
 use Rattle.model.specs.Comparison.{domainOf, compared, alike, sameGuards, sameRuling}
 use Rattle.model.specs.Calls.{clock, opening, check, revoke, same, ruling, step}
 use Rattle.model.specs.Lists.{run, perform, calls, derivedFrom, derivedAfter}

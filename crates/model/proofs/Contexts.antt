@@ -31,7 +31,7 @@ use Rattle.model.proofs.Kept.{Kept}
 use Rattle.model.proofs.Rules.{kept→}
 use Rattle.model.proofs.Running.{run-keeps}
 use Rattle.model.proofs.History.{Shows, derived-shown}
-use Rattle.model.proofs.Checks.{opened-lt, admitted-below, within-upper, within-role, checked, check-open, yes-permits, permits-role, role-permits, session-on, permits-entitled, sound-entitled, exact-check-holds}
+use Rattle.model.proofs.Checks.{opened-lt, admitted-below, within-upper, within-role, checked, check-open, yes-permits, permits-role, role-permits, session-on, sound-entitled, exact-check-holds}
 
 -- ---- the three masks
 

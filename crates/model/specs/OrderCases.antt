@@ -6,7 +6,7 @@ use Rattle.model.specs.declared.Origin.the-variants.{Role as ofRole, Cap
 use Rattle.model.specs.State.{contextOf, planOf}
 use Rattle.model.specs.Rulings.{value, refused}
 use Rattle.model.specs.Revocation.{raise}
-use Rattle.model.specs.Calls.{Call, enrol, found, grant, withdraw, appoint, dismiss, clock, create, allow, lend, hand, opening, check, amend, revoke, close, same}
+use Rattle.model.specs.Calls.{Call, enrol, found, grant, withdraw, appoint, dismiss, clock, create, allow, lend, hand, opening, amend, revoke, close, same}
 use Rattle.model.specs.Edges.{Exchange, _gets_, Answered, create-3, check-9, staffed, numbered}
 
 -- create from capability 0, and open on it, by a user at an hour; the new capability would have the use limit given

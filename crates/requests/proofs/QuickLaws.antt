@@ -1,9 +1,9 @@
 -- The quick reader of checks: a line that begins with the word and a space, and five numbers after that.
 use mathlib.Core.Path.{_≡_, refl, sym, ap, _∙_, subst}
-use mathlib.Core.Bool.{Bool, true, false, not}
+use mathlib.Core.Bool.{Bool, false, not}
 use mathlib.Core.List.{List, [], _∷_, _++_}
 use mathlib.Core.Option.{Option, none, some}
-use Prim.Native.Nat.{ℕ, zero, suc, _+_, _-_, _≤_}
+use Prim.Native.Nat.{ℕ, suc, _+_, _-_, _≤_}
 use native.Mathlib.Omega.{arith}
 use borrow.Author.Tests.{not-false}
 use lib.ListN.{length, take, drop, take-append-drop, length-drop}
@@ -15,7 +15,7 @@ use Rattle.model.specs.Calls.{check}
 use Rattle.model.specs.State.{contextOf}
 use Rattle.model.specs.Lines.{andThen, numeral, numbers, parse}
 use Rattle.text.specs.Parts.{after}
-use Rattle.text.specs.Readers.{numberIn, twoIn, withNumber, withTwo, Short, ShortTwo}
+use Rattle.text.specs.Readers.{numberIn, twoIn, withTwo, Short, ShortTwo}
 use Rattle.text.specs.declared.numbers.Number.{Number}
 use Rattle.text.specs.declared.numbers.Number.the-variants.{Read}
 use Rattle.text.specs.declared.numbers.TwoNumbers.{TwoNumbers}

@@ -1,3 +1,4 @@
+-- `sessions::check_guards` meets its contract.
 use borrow.Author.Needs.{needs}
 use Rattle.slots.proofs.GuardLaws.{test-unless, nothing-more}
 use mathlib.Core.Bool.{Bool, not}

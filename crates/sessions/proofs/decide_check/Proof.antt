@@ -1,7 +1,7 @@
 -- `sessions::decide_check` meets its contract.
 use borrow.Author.Needs.{needs}
 use mathlib.Core.Bool.{false}
-use mathlib.Core.Path.{refl, sym, ap, _∙_}
+use mathlib.Core.Path.{refl, sym, _∙_}
 use Rattle.model.proofs.Settling.{settle-same}
 use Rattle.sessions.specs.Sessions.{checkAnswer}
 use Rattle.sessions.proofs.decide_check.Statement.{statement}
