@@ -162,6 +162,7 @@ context-laws =
       own-decides = λ r s p n at w t. own-decides r w s t p n at;
       role-decides = λ r s p j at w t. role-decides r w s t p j at;
       out-of-range = λ r s p at w. out-of-range r w s p at;
+      opening-admitted = λ r s w t. opening-admitted r w s t;
       as-opened = λ r s p at w t. as-opened r w s t p at;
       opening-unread = λ r s other w w′ t. opening-unread r w s t other w′;
     }

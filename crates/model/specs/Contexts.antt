@@ -39,15 +39,17 @@ pub record ContextLaws : Type 0 where
       (n m : ℕ) (at : Context) → n < r .count → Descends (derivedFrom start events) n m → T (admits r (ofCapability n) at) → T (admits r (ofCapability m) at)
   pub end-admits : (start : Register) (events : List Event) → T (wellFormed start) → let r : Register = run start events in
       (f n k : ℕ) (at : Context) → n < r .count → Reaches (derivedFrom start events) f n k → T (admits r (ofCapability n) at) → T (admits r (ofRole k) at)
-  -- so, of a session on a capability, what this capability grants and admits by itself decides
+  -- so, of a session on a capability, its holders and its own authority, mark, life and masks decide
   pub own-decides : (r : Register) (s p n : ℕ) (at : Context) → T (wellFormed r) → T (opened r s) → (sessionAt (r .sessions) s) .on ≡ ofCapability n
       → Yes r s p at ↔ (T (has ((capability r n) .holders) ((sessionAt (r .sessions) s) .user)) × Sound r p at n)
-  -- §6.13.2: of a session on a role, what the role does
+  -- §6.13.2: of a session on a role, the appointment and what the role grants and admits
   pub role-decides : (r : Register) (s p k : ℕ) (at : Context) → T (wellFormed r) → T (opened r s) → (sessionAt (r .sessions) s) .on ≡ ofRole k
       → Yes r s p at ↔ (T (has ((role r k) .appointed) ((sessionAt (r .sessions) s) .user)) × RoleSound r p at k)
   -- §6.13.1: out of range, the context is refused with 2, whether the session is open or not
   pub out-of-range : (r : Register) (s p : ℕ) (at : Context) → T (wellFormed r) → T (not (inContext at)) → asked r (check s p at) ≡ refused 2
-  -- §6.13.4: yes in a context exactly if it is yes in that of the session's opening, and what the session is on admits the context
+  -- §6.13.4: what an open session is on admits the context of its opening
+  pub opening-admitted : (r : Register) (s : ℕ) → T (wellFormed r) → T (opened r s) → T (admits r ((session r s) .on) (openedIn (session r s)))
+  -- so it is yes in a context exactly if it is yes in that of the session's opening, and what the session is on admits the context
   pub as-opened : (r : Register) (s p : ℕ) (at : Context) → T (wellFormed r) → T (opened r s)
       → Yes r s p at ↔ (Yes r s p (openedIn (session r s)) × T (admits r ((session r s) .on) at))
   -- §6.13.3: where the session was opened is not read

@@ -47,7 +47,8 @@ pub record Promise : Type 2 where
   -- the worked cases E1 to E8 and the four mistakes (`model`, Edges.antt), and the listing (`model`, Listing.antt)
   pub edges : Edges
   pub listing : Listing
-  -- worked cases of what no theorem speaks of (`model`): calls, orders of refusals, contexts of checks, lines, one image byte by byte, the entry point
+  -- worked cases of what no theorem speaks of (`model`): calls, orders of refusals, contexts of checks, lines, one image byte by byte,
+  -- the entry point
   pub call-cases : CallCases
   pub order-cases : OrderCases
   pub context-cases : ContextCases
