@@ -100,7 +100,7 @@ fn yes_number(yes: bool) -> u32
 }
 
 // The answer to a check, by its session and the role and the capability that this may be on. Nothing changes, so that a caller who
-// holds the register needs nothing else. `decide_check` does without it: with one caller, a journal's, it costs no call there.
+// holds the register needs nothing else. `decide_check` does not call it: a function with one caller, here the journal, is inlined.
 pub fn answer_check(
     tick: u32,
     s: Session,

@@ -1,5 +1,5 @@
-// Numbers of one or two digits, as all that a check may name are. Where these readers read, they say what `numbers` says of any number;
-// where they do not, they say nothing.
+// Numbers of one or two digits, as all of a check are that are in range. What these readers read is what `numbers` reads; `Wrong` and
+// `NotBoth` say nothing here, not that there is no number.
 ghost use mathlib.Core.Path.{_≡_};
 ghost use lib.ListN.{drop};
 ghost use Rattle.text.specs.Parts.{endsWord};
