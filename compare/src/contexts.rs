@@ -4,8 +4,8 @@
 use crate::tally::Tally;
 use reference::generate::contexts::{Contexts, KINDS, PARTS, WHOLES};
 
-/// The numbers of arguments that a check could be thought to take; the first are
-/// those before it named a context.
+/// The numbers of arguments that a check could be thought to take; the first is
+/// what it took before it named a context.
 pub const ARGUMENTS: [usize; 4] = [2, 3, 4, 6];
 
 /// What the lines met.

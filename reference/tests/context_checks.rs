@@ -3,9 +3,9 @@
 
 mod common;
 
-use common::contexts::{all_contexts, inquiry};
+use common::contexts::{all_contexts, inquiry, within};
 use common::{accept_all, accepts, after, perform, refuses};
-use reference::{apply, journal, parse, Context, Inquiry, Register, Request};
+use reference::{apply, journal, parse, Inquiry, Register, Request};
 
 /// The masks of role 0, capability 0 on it and capability 1 on that: hours,
 /// places, devices.
@@ -37,13 +37,6 @@ fn with_sessions() -> Register {
         "open 1 1 pass 0 10 1 1",
         "open 2 1 pass 1 10 1 1",
     ])
-}
-
-/// Whether the masks have the three numbers.
-fn within(masks: [u32; 3], context: Context) -> bool {
-    let Context { hour, place, device } = context;
-    let numbers = [hour, place, device];
-    (0..3).all(|part| masks[part] & 1 << numbers[part] != 0)
 }
 
 #[test]

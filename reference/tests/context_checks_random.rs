@@ -3,7 +3,7 @@
 
 mod common;
 
-use common::contexts::{all_contexts, any_context, inquiry};
+use common::contexts::{self, all_contexts, any_context, inquiry, within};
 use reference::generate::{self, Profile};
 use reference::random::Random;
 use reference::register::has;
@@ -36,12 +36,6 @@ fn masks(register: &Register, on: Origin) -> [u32; 3] {
             [capability.hours, capability.places.into(), capability.devices.into()]
         }
     }
-}
-
-/// Whether hour, place and device are in these masks.
-fn within(masks: [u32; 3], context: Context) -> bool {
-    let Context { hour, place, device } = context;
-    masks[0] >> hour & 1 == 1 && masks[1] >> place & 1 == 1 && masks[2] >> device & 1 == 1
 }
 
 /// The capability, all above it, and the role at the end.
@@ -105,7 +99,8 @@ fn what_is_admitted_below_is_admitted_above() {
 }
 
 /// In each of the 6,144 contexts a check is a yes exactly as the whole lineage
-/// says.
+/// says, and exactly if it is one in the context of the opening and the target
+/// admits the context (§6.13.4).
 #[test]
 fn checks_are_exact_in_every_context() {
     let mut random = Random::new(81);
@@ -117,8 +112,11 @@ fn checks_are_exact_in_every_context() {
             let number = random.pick(&sessions);
             let session = register.sessions[number];
             let carried = random.bit(register.authority(session.on).into()).unwrap_or(0);
+            let there = value(&mut register, number, carried as u8, contexts::opening(&session));
             for context in all_contexts() {
                 let answer = value(&mut register, number, carried as u8, context);
+                let admitted = within(masks(&register, session.on), context);
+                assert_eq!(answer == 1, there == 1 && admitted, "{session:?} in {context:?}");
                 let expected = expected(&register, &session, carried as u8, context);
                 assert_eq!(answer, u64::from(expected), "{session:?} in {context:?}");
                 yes += answer;

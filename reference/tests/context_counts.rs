@@ -140,7 +140,7 @@ fn requests_of_every_profile_hang_on_contexts() {
     }
 }
 
-/// Most checks ask where the answer may be a yes, and a good part of them gets it.
+/// Of the checks that are answered, at least one in three is a yes.
 #[test]
 fn many_checks_are_still_a_yes() {
     let mut random = Random::new(95);

@@ -200,7 +200,7 @@ static void check_values(struct tally *tally, struct block small, struct block l
     free(half.at);
 }
 
-/* Role 2 admits hour 0 alone. */
+/* Role 2 admits hour 0 alone, at every place and on every device. */
 static void check_contexts(struct tally *tally, struct block small)
 {
     struct block moved = copy(small.at, small.length);

@@ -104,7 +104,7 @@ fn checks(random: &mut Random, small: &Register) -> Vec<(String, Input)> {
             _ => (),
         }
     };
-    let beyond = [
+    let inquiries = [
         ("yes", yes),
         ("hour", Inquiry { hour: 24, ..yes }),
         ("place", Inquiry { place: 16, ..yes }),
@@ -113,7 +113,7 @@ fn checks(random: &mut Random, small: &Register) -> Vec<(String, Input)> {
     let named = |(name, asked)| {
         (format!("check-{name}"), input(small, &lines::write(&Request::Check(asked))))
     };
-    beyond.map(named).into()
+    inquiries.map(named).into()
 }
 
 /// An input with an area that is just long enough.

@@ -6,14 +6,14 @@ use super::draw::Draw;
 use crate::register::{Origin, Session};
 use crate::request::{Inquiry, Request};
 
-/// What is added to a number so that it is beyond its range: some wrap to it
-/// where a number is cut to fewer bits.
+/// What is added to a number so that it is beyond its range: some sums are the
+/// number itself again where only the low bits are kept.
 const BEYOND: [u64; 6] = [24, 32, 64, 256, 65_536, 4_294_967_040];
 
 impl Draw<'_> {
-    /// Any permission, or one that the session's target has; the session is in
-    /// half of the cases one on a capability at a border of its life, which
-    /// mostly is to decide then.
+    /// Any permission, or one that the session's target has. In half of the
+    /// cases the session is on a capability at a border of its life, and then
+    /// the context is mostly admitted, so that the life decides.
     pub fn check(&mut self) -> Request {
         if self.random.chance(1, 12) {
             return self.check_beyond();

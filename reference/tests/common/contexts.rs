@@ -11,6 +11,13 @@ pub fn opening(session: &Session) -> Context {
     Context { hour: session.hour, place: session.place, device: session.device }
 }
 
+/// Whether masks of hours, places and devices have the three numbers, worked out
+/// again (§3.3.4).
+pub fn within(masks: [u32; 3], context: Context) -> bool {
+    let Context { hour, place, device } = context;
+    masks[0] >> hour & masks[1] >> place & masks[2] >> device & 1 == 1
+}
+
 /// Every context there is.
 pub fn all_contexts() -> impl Iterator<Item = Context> {
     let number = |at: u32| Context {

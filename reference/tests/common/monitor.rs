@@ -2,7 +2,7 @@
 //! step. The derivation is the test's own (§7.1.3): taken from the start and
 //! from the accepted creates, and never read off the register after that.
 
-use crate::common::contexts::{all_checks, opening, sampled};
+use crate::common::contexts::{all_checks, opening, sampled, within};
 use reference::generate::Borders;
 use reference::image::SHORTEST;
 use reference::random::Random;
@@ -239,7 +239,7 @@ impl Monitor {
             let over = capability.last <= self.register.clock;
             let masks = [capability.hours, capability.places.into(), capability.devices.into()];
             carried &= self.authority(at);
-            if capability.revoked || to_come || over || !admitted(masks, context) {
+            if capability.revoked || to_come || over || !within(masks, context) {
                 return 0;
             }
         }
@@ -283,15 +283,9 @@ impl Monitor {
     }
 }
 
-/// Whether the masks have hour, place and device, worked out again (§3.3.4).
-fn admitted(masks: [u32; 3], context: Context) -> bool {
-    let Context { hour, place, device } = context;
-    masks[0] >> hour & masks[1] >> place & masks[2] >> device & 1 == 1
-}
-
 /// The permissions of the role, if it admits the context.
 fn in_context(role: &Role, context: Context) -> u32 {
-    match admitted([role.hours, role.places.into(), role.devices.into()], context) {
+    match within([role.hours, role.places.into(), role.devices.into()], context) {
         true => role.permissions,
         false => 0,
     }

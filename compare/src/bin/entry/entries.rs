@@ -29,8 +29,9 @@ const LINES: usize = 50;
 const ON_NO_BYTES: usize = 24;
 
 /// How often the lines must meet the borders of lives, pairs that are nearly alike,
-/// and contexts that decide. Hardly a session is on a role that leaves out all three
-/// of its numbers.
+/// and contexts that decide. Hardly a session is on a role whose masks all leave
+/// something out, so checks on a role that are 0 for all three numbers are not asked
+/// for.
 const LEAST: Least = Least {
     borders: [
         [30, 14, 3],  // the first tick
