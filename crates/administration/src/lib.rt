@@ -1,4 +1,6 @@
 // Administration: enrol, found, grant, appoint, dismiss and clock, decided over the elements that they name.
+#![tactic(auto)]
+
 ghost use Rattle.std.specs.Prelude.{◌≡◌};
 ghost use Rattle.model.specs.Administration.{enrolling, founding, granting, appointing, dismissing, ticking};
 ghost use Rattle.slots.specs.Guards.{guarded, first_number};

@@ -1,4 +1,6 @@
 // The printer of answers: "prints ok and the value, or no and the number, one line for each line".
+#![tactic(auto)]
+
 ghost use Rattle.std.specs.Prelude.{◌≡◌, [], ◌∷◌, ◌≤◌, length};
 ghost use Rattle.masks.specs.Bytes.{front};
 ghost use Rattle.model.specs.Lines.{digit_count, digits_of, answer_line, printed};

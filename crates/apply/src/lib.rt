@@ -1,4 +1,6 @@
 // Any request on a register, by value: the register is tested for the rules once, then the call.
+#![tactic(auto)]
+
 ghost use Rattle.std.specs.Prelude.{◌≡◌, T};
 ghost use Rattle.model.specs.Rules.{well_formed};
 ghost use Rattle.model.specs.Calls.{settled, step};

@@ -1,5 +1,7 @@
 // A list of at most 64 requests, from any register: each gets the register that the one before it left. What is answered is the
 // definition over lists, `run` and `answers`.
+#![tactic(auto)]
+
 ghost use Rattle.std.specs.Prelude.{◌≡◌, ◌++◌, ◌-◌, ◌≤◌, min, T, replicate};
 ghost use Rattle.model.specs.Rules.{well_formed};
 ghost use Rattle.model.specs.Rulings.{value, refused};
@@ -11,19 +13,19 @@ use model::{Answer, Refusal, Register, Request};
 use rules::well_formed;
 
 // One request of a list.
-#[derive(Drop)]
+#[derive(Clone, Copy)]
 pub struct Item {
     pub request: Request,
 }
 
 // One answer.
-#[derive(Drop)]
+#[derive(Clone, Copy)]
 pub struct Told {
     pub answer: Answer,
 }
 
 // The register after the list, and an answer for each request; `Value(0)` in the places after them.
-#[derive(Drop)]
+#[derive(Clone, Copy)]
 pub struct Played {
     pub register: Register,
     pub answers: [Told; 64],

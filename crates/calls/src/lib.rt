@@ -1,4 +1,6 @@
 // The seventeen calls over the register by value: the whole reply is what the definitions say, refusal 15 included.
+#![tactic(auto)]
+
 ghost use Rattle.std.specs.Prelude.{◌≡◌};
 ghost use Rattle.model.specs.Calls.{step, enrol as enrolCall, found as foundCall, grant as grantCall, withdraw as withdrawCall, appoint as appointCall, dismiss as dismissCall, clock as clockCall, create as createCall, allow as allowCall, lend as lendCall, hand as handCall, opening as openCall, check as checkCall, amend as amendCall, revoke as revokeCall, close as closeCall, same as sameCall};
 ghost use Rattle.model.specs.Requests.{effect_of, named_origin, change_of};

@@ -1,4 +1,6 @@
 // Creation: create, decided over the elements that it names.
+#![tactic(auto)]
+
 ghost use Rattle.std.specs.Prelude.{◌≡◌};
 ghost use Rattle.masks.specs.Tests.{each};
 ghost use Rattle.model.specs.Delegation.{create_ranges};

@@ -1,4 +1,6 @@
 // The register in an image, read section by section without refusing: what has no bit of its map is blank.
+#![tactic(auto)]
+
 ghost use Rattle.std.specs.Prelude.{◌≡◌, true, ◌<◌, ◌≤◌, min, length, drop};
 ghost use Rattle.masks.specs.Bytes.{number_of, first_bytes};
 ghost use Rattle.model.specs.State.{blank_role, blank_session};
@@ -153,7 +155,7 @@ fn sessions_exact(s: &[u8], from: usize, mask: u64) -> bool
     exact
 }
 
-#[derive(Drop)]
+#[derive(Clone, Copy)]
 pub struct ReadImage {
     pub exact: bool,
     pub register: Register,

@@ -1,4 +1,6 @@
 // To which family a request goes: it is decided over the elements that it names, or comes to an order over the whole tree.
+#![tactic(auto)]
+
 ghost use Rattle.std.specs.Prelude.{◌≡◌, T};
 ghost use Rattle.model.specs.Rules.{well_formed};
 ghost use Rattle.model.specs.Calls.{settled};

@@ -1,4 +1,6 @@
 // The image of a register, written section by section.
+#![tactic(auto)]
+
 ghost use Rattle.std.specs.Prelude.{◌≡◌, ◌≤◌, length};
 ghost use Rattle.masks.specs.Bytes.{bytes_of, front};
 ghost use Rattle.model.specs.Fields.{write_role, write_session};

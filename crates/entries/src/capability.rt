@@ -11,6 +11,7 @@ use model::Capability;
 use origins::terms::{Allowance, is_below};
 
 // What is kept for a capability not there is 0.
+#[tactic(auto, using(masks::proofs::Truth::left_each), unfolding(model::specs::Rules::capability_blank))]
 fn is_blank(c: Capability) -> bool
     ensures { result ≡ capability_blank c }
 {
@@ -35,6 +36,7 @@ fn is_blank(c: Capability) -> bool
 }
 
 // Every number is in its range; the types see to those that are not tested.
+#[tactic(auto, using(masks::proofs::Truth::left_each), unfolding(model::specs::Rules::in_range))]
 fn is_ranged(c: Capability) -> bool
     ensures { result ≡ in_range c }
 {
@@ -43,6 +45,7 @@ fn is_ranged(c: Capability) -> bool
 }
 
 // What a capability keeps by itself.
+#[tactic(auto, using(masks::proofs::Truth::left_each), unfolding(model::specs::Rules::own_keeps, masks::specs::Masks::within))]
 fn keeps_own(enrolled: u64, c: Capability) -> bool
     ensures { result ≡ own_keeps enrolled c }
 {
@@ -54,6 +57,7 @@ fn keeps_own(enrolled: u64, c: Capability) -> bool
 }
 
 // The rules of capability n, which is c.
+#[tactic(auto, using(masks::proofs::Truth::left_each), unfolding(masks::specs::Masks::within))]
 fn keeps_all(
     enrolled: u64,
     founded: u64,
@@ -82,6 +86,7 @@ fn keeps_all(
 }
 
 // The rules of place n.
+#[tactic(auto, using(masks::proofs::Truth::cond_true, masks::proofs::Truth::cond_false), unfolding(crate::specs::Limits::place_with))]
 pub fn keeps_place(
     enrolled: u64,
     founded: u64,

@@ -23,6 +23,7 @@ pub fn is_role_zero(o: Origin) -> bool
 }
 
 // A capability's origin has a smaller number where it is a capability.
+#[tactic(auto, unfolding(model::specs::Rules::earlier))]
 pub fn is_earlier(n: usize, o: Origin) -> bool
     ensures { result ≡ earlier n o }
 {

@@ -7,6 +7,7 @@ ghost use Rattle.entries.specs.Limits.{role_with, role_keeps_with};
 use model::Role;
 
 // A user is of a domain once enrolled, and of domain 0 before.
+#[tactic(auto, using(masks::proofs::Truth::cond_true, masks::proofs::Truth::cond_false), unfolding(model::specs::Rules::user_keeps, masks::specs::Masks::has))]
 pub fn user_keeps(enrolled: u64, u: usize, domain: u8) -> bool
     requires { u < 64 }
     ensures { result ≡ user_keeps enrolled u domain }
@@ -16,6 +17,7 @@ pub fn user_keeps(enrolled: u64, u: usize, domain: u8) -> bool
 }
 
 // What is kept for a role not founded is 0.
+#[tactic(auto, using(masks::proofs::Truth::left_each), unfolding(model::specs::Rules::role_blank))]
 fn is_blank(x: Role) -> bool
     ensures { result ≡ role_blank x }
 {
@@ -28,6 +30,7 @@ fn is_blank(x: Role) -> bool
 }
 
 // The rules of a founded role; peers are the users of its domain.
+#[tactic(auto, using(masks::proofs::Truth::left_each), unfolding(masks::specs::Masks::within))]
 fn keeps_all(enrolled: u64, peers: u64, x: Role) -> bool
     ensures { result ≡ each (role_with enrolled peers x) }
 {
@@ -36,6 +39,8 @@ fn keeps_all(enrolled: u64, peers: u64, x: Role) -> bool
         & (x.appointed & enrolled == x.appointed)
         & (x.appointed & peers == x.appointed)
 }
+
+#[tactic(auto, using(masks::proofs::Truth::cond_true, masks::proofs::Truth::cond_false))]
 
 pub fn role_keeps(enrolled: u64, peers: u64, x: Role) -> bool
     ensures { result ≡ role_keeps_with enrolled peers x }

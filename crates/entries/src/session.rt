@@ -11,6 +11,7 @@ use model::{Context, Session};
 use origins::terms::{Allowance, admits, in_context};
 
 // What is kept for a session not open is 0.
+#[tactic(auto, using(masks::proofs::Truth::left_each), unfolding(model::specs::Rules::session_blank))]
 fn is_blank(s: Session) -> bool
     ensures { result ≡ session_blank s }
 {
@@ -20,6 +21,7 @@ fn is_blank(s: Session) -> bool
 }
 
 // A session's context has its ranges and is admitted by its role or capability, which allows u.
+#[tactic(auto, using(masks::proofs::Truth::left_each))]
 fn keeps_all(enrolled: u64, there: bool, u: Allowance, s: Session) -> bool
     ensures { result ≡ each (session_with enrolled there (terms_in u) s) }
 {
@@ -35,6 +37,8 @@ fn keeps_all(enrolled: u64, there: bool, u: Allowance, s: Session) -> bool
     let admitted = admits(u, at);
     (s.user < 64) & ranged & timely & known & there & admitted
 }
+
+#[tactic(auto, using(masks::proofs::Truth::cond_true, masks::proofs::Truth::cond_false), unfolding(crate::specs::Limits::session_keeps_with))]
 
 pub fn session_keeps(enrolled: u64, there: bool, u: Allowance, s: Session) -> bool
     ensures { result ≡ session_keeps_with enrolled there (terms_in u) s }

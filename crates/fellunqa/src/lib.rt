@@ -1,4 +1,6 @@
 // The C entry point, which document 01 calls the door: one image, one line, and the buffer for the new image.
+#![tactic(auto)]
+
 ghost use Rattle.std.specs.Prelude.{◌≡◌, ◌≤◌, T, pos, neg_ℤ, length};
 ghost use Rattle.masks.specs.Bytes.{bytes_of, front, split};
 ghost use Rattle.model.specs.Rules.{well_formed};

@@ -7,6 +7,7 @@ ghost use Rattle.fields.specs.Codes.{coding_of, codings, narrow};
 use crate::number::{get_at, get_map, put, put_map};
 
 // The bytes of a field.
+#[tactic(auto, using(crate::proofs::Codes::code_map, crate::proofs::Codes::code_width))]
 fn width_of(code: usize) -> usize
     ensures { result ≡ width (coding_of code) }
 {
@@ -14,6 +15,7 @@ fn width_of(code: usize) -> usize
 }
 
 // Writes a field at the front of s; the bytes written.
+#[tactic(auto, using(crate::proofs::Codes::code_map, crate::proofs::Codes::code_written))]
 fn put_field(s: &mut [u8], code: usize, v: u64) -> usize
     requires { length (written (coding_of code) v) ≤ length s.old }
     ensures { (result ≡ length (written (coding_of code) v)) × (s.new ≡ front (written (coding_of code) v) s.old) }
@@ -38,6 +40,7 @@ fn put_set(s: &mut [u8], code: usize, v: u64) -> usize
 }
 
 // Writes all fields one after another; the bytes written.
+#[tactic(auto, using(crate::proofs::Putting::each_field, crate::proofs::Putting::FieldsTo, crate::proofs::Putting::fields_turn, crate::proofs::Putting::fields_step, crate::proofs::Putting::fields_done, masks::proofs::Truth::the))]
 pub fn put_all(s: &mut [u8], codes: &[u8], values: &[u64]) -> usize
     requires { (length codes.now ≡ length values.now) × (length (write_all (codings codes.now) values.now) ≤ length s.old) }
     ensures { (result ≡ length (write_all (codings codes.now) values.now)) × (s.new ≡ front (write_all (codings codes.now) values.now) s.old) }
@@ -53,6 +56,7 @@ pub fn put_all(s: &mut [u8], codes: &[u8], values: &[u64]) -> usize
 }
 
 // Writes the fields that are not 0; the bytes written.
+#[tactic(auto, using(crate::proofs::Putting::each_present, crate::proofs::Putting::FieldsTo, crate::proofs::Putting::fields_turn, crate::proofs::Putting::fields_step, crate::proofs::Putting::fields_done, masks::proofs::Truth::the))]
 pub fn put_present(s: &mut [u8], codes: &[u8], values: &[u64]) -> usize
     requires { (length codes.now ≡ length values.now) × (length (write_present (codings codes.now) values.now) ≤ length s.old) }
     ensures { (result ≡ length (write_present (codings codes.now) values.now)) × (s.new ≡ front (write_present (codings codes.now) values.now) s.old) }
@@ -68,6 +72,7 @@ pub fn put_present(s: &mut [u8], codes: &[u8], values: &[u64]) -> usize
 }
 
 // 1 for a field that is not 0.
+#[tactic(auto, using(crate::proofs::Codes::is_set_pos))]
 fn is_set(v: u64) -> u64
     ensures { result ≡ is_set v }
 {
@@ -75,6 +80,7 @@ fn is_set(v: u64) -> u64
 }
 
 // The map of the fields that are not 0.
+#[tactic(auto, using(crate::proofs::Fields::is_set_le, crate::proofs::Codes::map_below))]
 pub fn field_map(values: &[u64]) -> u64
     requires { length values.now ≤ 16 }
     ensures { result ≡ field_map values.now }
@@ -89,6 +95,7 @@ pub fn field_map(values: &[u64]) -> u64
 }
 
 // The field at `at`. Bytes past the end are 0.
+#[tactic(auto, using(crate::proofs::Codes::code_map, crate::proofs::Codes::code_width, crate::proofs::Codes::code_read), unfolding(crate::specs::Codes::coding_of))]
 fn read_field(s: &[u8], at: usize, code: usize) -> u64
     requires { (at < 65536) × (width (coding_of code) ≤ 8) }
     ensures { result ≡ read_field (coding_of code) (drop at s.now) }
@@ -103,6 +110,7 @@ fn read_field(s: &[u8], at: usize, code: usize) -> u64
 }
 
 // The field at `at` where its bit of the map is set, else 0.
+#[tactic(auto, using(crate::proofs::Codes::set_read))]
 fn read_set(s: &[u8], at: usize, bit: u64, code: usize) -> u64
     requires { (at < 65536) × (width (coding_of code) ≤ 8) }
     ensures { result ≡ read_set bit (coding_of code) (drop at s.now) }
@@ -122,6 +130,7 @@ pub fn if_set(bit: u64, w: usize) -> usize
 }
 
 // All fields from `from` on.
+#[tactic(auto, using(crate::proofs::Parts::fill_done, crate::proofs::Codes::narrow_at, crate::proofs::Codes::read_turn))]
 pub fn read_all(s: &[u8], from: usize, codes: &[u8], out: &mut [u64])
     requires { (from < 60000) × (length codes.now ≡ length out.old) × (length codes.now ≤ 16) × T (narrow codes.now) }
     ensures { out.new ≡ read_all (codings codes.now) (drop from s.now) }
@@ -137,6 +146,7 @@ pub fn read_all(s: &[u8], from: usize, codes: &[u8], out: &mut [u64])
 }
 
 // The fields from `from` on whose bit of the map is set, and 0 for the others; where they end.
+#[tactic(auto, using(crate::proofs::Parts::fill_done, crate::proofs::Codes::narrow_at, crate::proofs::Codes::read_present_turn))]
 pub fn read_present(s: &[u8], from: usize, map: u64, codes: &[u8], out: &mut [u64]) -> usize
     requires { (from < 60000) × (length codes.now ≡ length out.old) × (length codes.now ≤ 16) × T (narrow codes.now) }
     ensures { (out.new ≡ read_present map (codings codes.now) (drop from s.now)) × (result ≡ from + present_length map (codings codes.now)) }
@@ -156,6 +166,7 @@ pub fn read_present(s: &[u8], from: usize, map: u64, codes: &[u8], out: &mut [u6
 }
 
 // The bytes of the fields whose bit of the map is set.
+#[tactic(auto, using(crate::proofs::Codes::narrow_at))]
 pub fn present_length(map: u64, codes: &[u8]) -> usize
     requires { (length codes.now ≤ 16) × T (narrow codes.now) }
     ensures { result ≡ present_length map (codings codes.now) }

@@ -4,6 +4,7 @@ ghost use Rattle.masks.specs.Bytes.{bytes_of, number_of, map_bytes, mask_of, fir
 ghost use Rattle.fields.specs.Codes.{Bytes};
 
 // Writes n as k bytes, high byte first, at the front of s.
+#[tactic(auto, using(buffers::proofs::Digits::DigitsFrom, buffers::proofs::Digits::digits_start, buffers::proofs::Digits::digits_step, buffers::proofs::Digits::digits_done, crate::proofs::Parts::byte_digits, masks::proofs::Truth::the))]
 pub fn put(s: &mut [u8], k: usize, n: u64)
     requires { k ≤ length s.old }
     ensures { s.new ≡ front (bytes_of k n) s.old }
@@ -18,6 +19,7 @@ pub fn put(s: &mut [u8], k: usize, n: u64)
 }
 
 // Writes a mask as a map of k bytes at the front of s.
+#[tactic(auto, using(buffers::proofs::Parts::placed, buffers::proofs::Parts::placed_nil, crate::proofs::Parts::map_turn))]
 pub fn put_map(s: &mut [u8], k: usize, n: u64)
     requires { k ≤ length s.old }
     ensures { s.new ≡ front (map_bytes k n) s.old }
@@ -47,6 +49,7 @@ pub fn byte_at(s: &[u8], i: usize) -> u64
 }
 
 // The number in the k bytes from `at` on, high byte first, all of which are there.
+#[tactic(auto, using(crate::proofs::Parts::NumberTo, crate::proofs::Parts::number_none, crate::proofs::Parts::number_fits, crate::proofs::Parts::number_shifts, crate::proofs::Parts::number_more, crate::proofs::Parts::number_all))]
 fn get_within(s: &[u8], at: usize, k: usize) -> u64
     requires { (at + k ≤ length s.now) × (at < 65536) × (k ≤ 8) }
     ensures { result ≡ number_of (first_bytes k (drop at s.now)) }
@@ -61,6 +64,7 @@ fn get_within(s: &[u8], at: usize, k: usize) -> u64
 }
 
 // The same, where bytes past the end are 0.
+#[tactic(auto, using(crate::proofs::Parts::NumberTo, crate::proofs::Parts::number_none, crate::proofs::Parts::number_fits, crate::proofs::Parts::number_shifts, crate::proofs::Parts::number_more, crate::proofs::Parts::number_all))]
 fn get_past(s: &[u8], at: usize, k: usize) -> u64
     requires { (at < 65536) × (k ≤ 8) }
     ensures { result ≡ number_of (first_bytes k (drop at s.now)) }
@@ -87,6 +91,7 @@ pub fn get_at(s: &[u8], at: usize, k: usize) -> u64
 }
 
 // The mask of the map of k bytes from `at` on. Bytes past the end are 0.
+#[tactic(auto, using(crate::proofs::Parts::byte_step, crate::proofs::Parts::byte_fits, crate::proofs::Parts::mask_turn))]
 pub fn get_map(s: &[u8], at: usize, k: usize) -> u64
     requires { (at < 65536) × (k ≤ 8) }
     ensures { result ≡ mask_of (first_bytes k (drop at s.now)) }

@@ -1,4 +1,6 @@
 // Giving: allow, lend and hand, decided over the elements that they name.
+#![tactic(auto)]
+
 ghost use Rattle.std.specs.Prelude.{◌≡◌};
 ghost use Rattle.model.specs.Setters.{with_permissions, with_lent};
 ghost use Rattle.model.specs.Delegation.{give_guards, handing};
@@ -69,7 +71,7 @@ fn give_guards(
 
 // What allow or lend adds to: `given` is what the origin may give, `had` what the capability has already; `permissions` and
 // `lent` are what it has after.
-#[derive(Drop)]
+#[derive(Clone, Copy)]
 pub struct Extension {
     pub given: u32,
     pub had: u32,

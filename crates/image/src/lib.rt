@@ -1,4 +1,6 @@
 // The image of the register: document 01, "The image", and the calls save and load.
+#![tactic(auto)]
+
 ghost use Rattle.std.specs.Prelude.{◌≡◌, T, length};
 ghost use Rattle.model.specs.Rules.{well_formed};
 ghost use Rattle.model.specs.Requests.{outcome_of, effect_of};

@@ -1,5 +1,7 @@
 // The journal program: standard input played from a fresh register, the answers on standard output; or what its arguments ask for
 // instead. The input has room for one byte more than the limit, the output for the longest answers.
+#![tactic(auto)]
+
 use terminal::options::Wish;
 
 fn main() {

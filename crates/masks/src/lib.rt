@@ -1,8 +1,11 @@
 // Masks: bit k stands for item k. This crate knows nothing of the register.
+#![tactic(auto)]
+
 ghost use Rattle.std.specs.Prelude.{◌≡◌, cond, ◌+◌, ◌<◌, ◌≤◌, ◌^◌, get_or};
 ghost use Rattle.masks.specs.Masks.{has, within, including, excluding, joined};
 
 // Item k of a mask, for any number k.
+#[tactic(auto, using(crate::proofs::MaskLaws::no_bit), unfolding(crate::specs::Masks::has))]
 pub fn member(mask: u64, k: u32) -> bool
     ensures { result ≡ has mask k }
 {
@@ -10,6 +13,7 @@ pub fn member(mask: u64, k: u32) -> bool
 }
 
 // Every item of the mask a is one of b.
+#[tactic(auto, unfolding(crate::specs::Masks::within))]
 pub fn contained(a: u32, b: u32) -> bool
     ensures { result ≡ within a b }
 {
@@ -17,6 +21,7 @@ pub fn contained(a: u32, b: u32) -> bool
 }
 
 // The mask of item k alone.
+#[tactic(auto, using(crate::proofs::MaskLaws::one_shl))]
 pub fn bit32(k: u32) -> u32
     requires { k < 32 }
     ensures { result ≡ 2 ^ k }
@@ -24,6 +29,7 @@ pub fn bit32(k: u32) -> u32
     1 << k
 }
 
+#[tactic(auto, using(crate::proofs::MaskLaws::one_shl))]
 fn bit64(k: u32) -> u64
     requires { k < 64 }
     ensures { result ≡ 2 ^ k }
@@ -32,6 +38,7 @@ fn bit64(k: u32) -> u64
 }
 
 // A mask with item k put in.
+#[tactic(auto, unfolding(crate::specs::Masks::including))]
 pub fn including32(mask: u32, k: u32) -> u32
     requires { k < 32 }
     ensures { result ≡ including mask k }
@@ -39,6 +46,7 @@ pub fn including32(mask: u32, k: u32) -> u32
     mask | bit32(k)
 }
 
+#[tactic(auto, unfolding(crate::specs::Masks::including))]
 pub fn including64(mask: u64, k: u32) -> u64
     requires { k < 64 }
     ensures { result ≡ including mask k }
@@ -47,6 +55,7 @@ pub fn including64(mask: u64, k: u32) -> u64
 }
 
 // A mask that has item k, with it taken out.
+#[tactic(auto, unfolding(crate::specs::Masks::excluding))]
 pub fn excluding32(mask: u32, k: u32) -> u32
     requires { k < 32 }
     ensures { result ≡ excluding mask k }
@@ -54,6 +63,7 @@ pub fn excluding32(mask: u32, k: u32) -> u32
     mask ^ bit32(k)
 }
 
+#[tactic(auto, unfolding(crate::specs::Masks::excluding))]
 pub fn excluding64(mask: u64, k: u32) -> u64
     requires { k < 64 }
     ensures { result ≡ excluding mask k }
@@ -62,6 +72,7 @@ pub fn excluding64(mask: u64, k: u32) -> u64
 }
 
 // The mask p where item k is in the mask, else none.
+#[tactic(auto, using(crate::proofs::Truth::told))]
 fn chosen(p: u32, mask: u32, k: u32) -> u32
     ensures { result ≡ cond (has mask k) p 0 }
 {
@@ -69,6 +80,7 @@ fn chosen(p: u32, mask: u32, k: u32) -> u32
 }
 
 // The masks of the items of a mask, one after the other; that of item k is at `from` + k.
+#[tactic(auto, using(crate::proofs::JoinLaws::joined_more), unfolding(crate::specs::Masks::joined))]
 fn join_each(columns: &[u32; 64], from: usize, mask: u32) -> u32
     requires { from ≤ 32 }
     ensures { result ≡ joined (λ k. get_or columns.now (from + k) 0) mask 32 }
@@ -84,6 +96,7 @@ fn join_each(columns: &[u32; 64], from: usize, mask: u32) -> u32
 
 // The masks of the items of a mask, joined; the column that begins at `from` has that of each item. It is quick where there is at
 // most one item, as in the lent roles of every register that keeps the rules.
+#[tactic(auto, using(crate::proofs::JoinLaws::joined_none, crate::proofs::JoinLaws::column_single))]
 pub fn join(columns: &[u32; 64], from: usize, mask: u32) -> u32
     requires { from ≤ 32 }
     ensures { result ≡ joined (λ k. get_or columns.now (from + k) 0) mask 32 }

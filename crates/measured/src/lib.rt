@@ -1,5 +1,7 @@
 // A journal over a saved register, so that calls can be measured from outside without a process and without saving. It is no part of
 // the C library.
+#![tactic(auto)]
+
 ghost use Rattle.std.specs.Prelude.{◌≡◌};
 ghost use Rattle.measured.specs.Measured.{played_length, played_buffer};
 

@@ -17,7 +17,6 @@ use Rattle.model.specs.State.{terms, role_at, blank_role, blank_session, opened_
 use Rattle.model.specs.Rules.{is_origin, role_blank, role_blank_tests, range_tests, in_range, all_founded, earlier, own_tests, own_keeps, capability_tests, capability_keeps, session_tests, session_blank, session_blank_tests}
 use Rattle.model.specs.Invariant.{OriginInRange, Exists, Earlier, CapabilityRanges, CapabilityRules, SessionRules}
 use Rattle.model.proofs.Kept.{below→, below←, role_zero, CapabilityKept}
-use Rattle.model.proofs.Ranges.{lent_founded}
 
 -- ---- origins
 

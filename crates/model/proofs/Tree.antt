@@ -10,11 +10,11 @@ use Rattle.model.specs.declared.Origin.{Origin}
 use Rattle.model.specs.declared.Origin.TheVariants.{Role as ofRole, Capability as ofCapability}
 use Rattle.model.specs.declared.Role.{Role}
 use Rattle.model.specs.declared.Capability.{Capability}
-use Rattle.masks.specs.Masks.{has, within}
+use Rattle.masks.specs.Masks.{within}
 use Rattle.model.specs.State.{party, there, capability_terms, Terms, terms, claims, authority, lent_authority, may_lend, role_at, capability_at, blank_capability, origin_at, exists}
 use Rattle.model.specs.Lineage.{lineage, onward, root, ending, member, in_lineage, Descends, here, up, Reaches, last_step, one_step}
 use Rattle.model.specs.Rules.{earlier}
-use Rattle.masks.proofs.Truth.{or_l, or_r, or_cases, T→true}
+use Rattle.masks.proofs.Truth.{or_l, or_r, or_cases}
 use Rattle.masks.proofs.MaskLaws.{within_refl, within_trans, within_or, within_or_r}
 use Rattle.model.specs.Invariant.{Below}
 use Rattle.model.proofs.Authority.{lend_mono, lent_mono, lent_one, lend_closed, lent_closed}

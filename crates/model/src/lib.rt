@@ -1,16 +1,18 @@
 // The register by value and all that it holds, requests and answers. A capability is document 01's pass.
+#![tactic(auto)]
+
 ghost use Rattle.std.specs.Prelude.{◌≡◌};
 ghost use Rattle.model.specs.State.{blank_role, blank_capability, blank_session, fresh as freshRegister};
 ghost use Rattle.model.specs.Requests.{refusal_number};
 
 // What a capability is derived from, and what a session is opened on: a role or a capability, by number.
-#[derive(Drop)]
+#[derive(Clone, Copy)]
 pub enum Origin {
     Role(u8),
     Capability(u8),
 }
 
-#[derive(Drop)]
+#[derive(Clone, Copy)]
 pub struct Role {
     pub founded: bool,
     pub domain: u8,
@@ -21,7 +23,7 @@ pub struct Role {
     pub appointed: u64,
 }
 
-#[derive(Drop)]
+#[derive(Clone, Copy)]
 pub struct Capability {
     pub origin: Origin,
     pub creator: u8,
@@ -42,7 +44,7 @@ pub struct Capability {
     pub revoked: bool,
 }
 
-#[derive(Drop)]
+#[derive(Clone, Copy)]
 pub struct Session {
     pub active: bool,
     pub user: u8,
@@ -52,7 +54,7 @@ pub struct Session {
     pub device: u8,
 }
 
-#[derive(Drop)]
+#[derive(Clone, Copy)]
 pub struct Register {
     pub clock: u32,
     pub enrolled: u64,
@@ -64,7 +66,7 @@ pub struct Register {
 }
 
 // One case for each refusal; `refusal_number` gives the document's number.
-#[derive(Drop)]
+#[derive(Clone, Copy)]
 pub enum Refusal {
     Malformed,
     Range,
@@ -84,32 +86,32 @@ pub enum Refusal {
     Room,
 }
 
-#[derive(Drop)]
+#[derive(Clone, Copy)]
 pub enum Answer {
     Value(u32),
     Refused(Refusal),
 }
 
-#[derive(Drop)]
+#[derive(Clone, Copy)]
 pub struct Reply {
     pub answer: Answer,
     pub register: Register,
 }
 
 // A role or a capability as a request names it: any number that a line can hold.
-#[derive(Drop)]
+#[derive(Clone, Copy)]
 pub enum Named {
     Role(u32),
     Capability(u32),
 }
 
-#[derive(Drop)]
+#[derive(Clone, Copy)]
 pub enum Change {
     Raise(u32),
     Lower(u32),
 }
 
-#[derive(Drop)]
+#[derive(Clone, Copy)]
 pub struct Context {
     pub hour: u32,
     pub place: u32,
@@ -117,7 +119,7 @@ pub struct Context {
 }
 
 // What `create` asks for: life, limits and the three context masks.
-#[derive(Drop)]
+#[derive(Clone, Copy)]
 pub struct Plan {
     pub first: u32,
     pub last: u32,
@@ -130,7 +132,7 @@ pub struct Plan {
 }
 
 // A request that changes only elements that it names: journal words with their arguments, in the document's order.
-#[derive(Drop)]
+#[derive(Clone, Copy)]
 pub enum LocalRequest {
     Enrol(u32, u32),
     Found(u32, u32, u32, u32, u32),
@@ -148,7 +150,7 @@ pub enum LocalRequest {
 }
 
 // A request that reads or changes the whole creation tree.
-#[derive(Drop)]
+#[derive(Clone, Copy)]
 pub enum TreeRequest {
     Withdraw(u32, u32),
     Amend(u32, u32, Change),
@@ -157,14 +159,14 @@ pub enum TreeRequest {
 }
 
 // The seventeen journal words with their arguments.
-#[derive(Drop)]
+#[derive(Clone, Copy)]
 pub enum Request {
     Local(LocalRequest),
     Tree(TreeRequest),
 }
 
 // The parser's answer: a request, or none.
-#[derive(Drop)]
+#[derive(Clone, Copy)]
 pub enum Parsed {
     Line(Request),
     NoRequest,

@@ -6,6 +6,7 @@ use masks::{bit32, join};
 use model::{Capability, Origin, Role};
 
 // The columns of the roles, to be lent where the register would be copied: the authority of each role, then what each may lend.
+#[tactic(auto, using(crate::proofs::Filling::Filled, crate::proofs::Filling::filled_none, crate::proofs::Filling::filled_more, crate::proofs::Filling::filled_all))]
 pub fn columns_of(roles: [Role; 32]) -> [u32; 64]
     ensures { Columns result roles }
 {
@@ -21,6 +22,7 @@ pub fn columns_of(roles: [Role; 32]) -> [u32; 64]
 }
 
 // The item of role k in the column that begins at `from`; there is none past 31.
+#[tactic(auto, unfolding(crate::specs::Authority::role_item))]
 fn role_item(columns: &[u32; 64], from: usize, k: u8) -> u32
     requires { from ≤ 32 }
     ensures { result ≡ role_item columns.now from k }
@@ -33,6 +35,7 @@ fn role_item(columns: &[u32; 64], from: usize, k: u8) -> u32
 }
 
 // The authority of a capability: its own permissions and those of its lent roles; without lent roles no column is read.
+#[tactic(auto, using(crate::proofs::Laws::authority_own), unfolding(crate::specs::Authority::authority_in, crate::specs::Authority::joined_items))]
 pub fn authority_in(columns: &[u32; 64], c: Capability) -> u32
     ensures { result ≡ authority_in columns.now c }
 {
@@ -54,6 +57,7 @@ pub fn granted_by(columns: &[u32; 64], o: Origin, c: Capability) -> u32
 }
 
 // The roles that the origin o may lend.
+#[tactic(auto, unfolding(crate::specs::Authority::joined_items))]
 pub fn lendable_by(columns: &[u32; 64], o: Origin, c: Capability) -> u32
     ensures { result ≡ lendable_by columns.now o c }
 {

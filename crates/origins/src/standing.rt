@@ -29,6 +29,7 @@ pub fn member_in(o: Origin, x: Role, c: Capability, user: u32) -> bool
 }
 
 // The tick is in the life: of a capability from its first tick on and before its last (§3.3.2), of a role always (§3.3.3).
+#[tactic(auto, using(masks::proofs::Truth::left_each))]
 pub fn alive_in(o: Origin, c: Capability, tick: u32) -> bool
     ensures { (x : RoleHeld) → result ≡ lives (party_in o x c) tick }
 {

@@ -7,7 +7,7 @@ use crate::authority::{granted_by, lendable_by};
 use masks::member;
 use model::{Capability, Context, Origin, Role, blank_role};
 
-#[derive(Drop)]
+#[derive(Clone, Copy)]
 pub struct Allowance {
     pub grants: u32,
     pub lendable: u32,
@@ -23,6 +23,7 @@ pub struct Allowance {
 }
 
 // The terms of a role x, or of a capability c, that grants `grants` and may lend `lendable`.
+#[tactic(auto, unfolding(crate::specs::Terms::slot_terms))]
 pub fn allowance_of(o: Origin, x: Role, c: Capability, grants: u32, lendable: u32) -> Allowance
     ensures { terms_in result ≡ slot_terms o x c grants lendable }
 {
@@ -74,6 +75,7 @@ pub fn bare_allowance(o: Origin, c: Capability) -> Allowance
 }
 
 // Hour, place and device are in their ranges.
+#[tactic(auto, using(masks::proofs::Truth::left_each), unfolding(model::specs::State::in_context))]
 pub fn in_context(at: Context) -> bool
     ensures { result ≡ in_context at }
 {
@@ -81,6 +83,7 @@ pub fn in_context(at: Context) -> bool
 }
 
 // All three masks have the context's bit.
+#[tactic(auto, using(masks::proofs::Truth::left_each), unfolding(model::specs::State::admitted))]
 pub fn admits(t: Allowance, at: Context) -> bool
     ensures { result ≡ admitted (terms_in t) at }
 {
@@ -91,6 +94,7 @@ pub fn admits(t: Allowance, at: Context) -> bool
 }
 
 // What a capability claims is within what its origin allows.
+#[tactic(auto, using(masks::proofs::Truth::left_each), unfolding(model::specs::State::below, masks::specs::Masks::within))]
 pub fn is_below(c: Capability, t: Allowance) -> bool
     ensures { result ≡ below (claims c) (terms_in t) }
 {

@@ -1,4 +1,6 @@
 // Where the elements stand that a request names: numbers from the request, or followed from what was read.
+#![tactic(auto)]
+
 ghost use Rattle.std.specs.Prelude.{◌≡◌, ◌%◌, ◌<◌};
 ghost use Rattle.places.specs.Requests.{names_with, role_in, capability_in, names_of, capability_place, role_place, parent_place, changes_role, seen_slots};
 
@@ -8,7 +10,7 @@ use slots::Slots;
 
 // What the places that a request leaves open are followed from: nothing, also where the role named may change; the capability's
 // origin; what the session is on; or the count, where the new capability goes.
-#[derive(Drop)]
+#[derive(Clone, Copy)]
 pub enum Follow {
     Nothing,
     Role,
@@ -18,7 +20,7 @@ pub enum Follow {
 }
 
 // The numbers that a request names, of any size; 0 for what it does not name.
-#[derive(Drop)]
+#[derive(Clone, Copy)]
 pub struct Names {
     pub user: u32,
     pub role: u32,

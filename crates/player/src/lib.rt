@@ -1,4 +1,6 @@
 // A journal over bytes: an answer for each line, each printed into the part of the output after the one before it.
+#![tactic(auto)]
+
 ghost use Rattle.std.specs.Prelude.{◌≡◌, ◌*◌, ◌≤◌, length};
 ghost use Rattle.masks.specs.Bytes.{front, split};
 ghost use Rattle.model.specs.Journal.{transcript};

@@ -6,7 +6,7 @@ use model::{Context, LocalRequest, Parsed, Refusal, Request, TreeRequest};
 use requests::checks::{Quick, check_of};
 use requests::parse;
 
-#[derive(Drop)]
+#[derive(Clone, Copy)]
 pub enum Step {
     Refuse(Refusal),
     Check(u32, u32, Context),

@@ -107,7 +107,7 @@ fn read_head(s: &[u8], at: usize) -> [u64; 4]
     h
 }
 
-#[derive(Drop)]
+#[derive(Clone, Copy)]
 pub struct ReadCapability {
     pub exact: bool,
     pub capability: Capability,

@@ -7,7 +7,7 @@ use model::Context;
 use text::numbers::{Number, TwoNumbers};
 use text::short::{short_number, short_two};
 
-#[derive(Drop)]
+#[derive(Clone, Copy)]
 pub enum Quick {
     Check(u32, u32, Context),
     Unread,

@@ -1,4 +1,6 @@
 // The parser of requests: a line is a word and exactly its arguments.
+#![tactic(auto)]
+
 ghost use Rattle.std.specs.Prelude.{◌≡◌};
 ghost use Rattle.model.specs.State.{context_of};
 ghost use Rattle.model.specs.Lines.{plan_in, create_in, open_in, amend_in, parse as parsed};

@@ -6,14 +6,14 @@ ghost use Rattle.requests.specs.Spelling.{asks};
 use buffers::same_bytes;
 
 // Words that one number follows.
-#[derive(Drop)]
+#[derive(Clone, Copy)]
 pub enum One {
     Clock,
     Close,
 }
 
 // Words that two numbers follow.
-#[derive(Drop)]
+#[derive(Clone, Copy)]
 pub enum Two {
     Enrol,
     Grant,
@@ -25,7 +25,7 @@ pub enum Two {
 }
 
 // Words that three numbers follow.
-#[derive(Drop)]
+#[derive(Clone, Copy)]
 pub enum Three {
     Allow,
     Lend,
@@ -33,7 +33,7 @@ pub enum Three {
 }
 
 // Words that only numbers follow; five follow found and check.
-#[derive(Drop)]
+#[derive(Clone, Copy)]
 pub enum Plain {
     Single(One),
     Pair(Two),
@@ -42,7 +42,7 @@ pub enum Plain {
     Check,
 }
 
-#[derive(Drop)]
+#[derive(Clone, Copy)]
 pub enum Word {
     Numbers(Plain),
     Create,

@@ -1,4 +1,6 @@
 // The test of all rules of the register, in one sweep.
+#![tactic(auto)]
+
 mod capability;
 mod columns;
 mod roles;

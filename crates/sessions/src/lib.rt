@@ -1,4 +1,6 @@
 // Sessions: open, check and close, decided over the elements that they name.
+#![tactic(auto)]
+
 ghost use Rattle.std.specs.Prelude.{◌≡◌, Bool, cond, drop, ◌%◌};
 ghost use Rattle.model.specs.State.{context_of};
 ghost use Rattle.model.specs.Requests.{outcome_of, named_origin};

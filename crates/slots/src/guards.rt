@@ -6,7 +6,7 @@ ghost use Rattle.slots.specs.Guards.{guarded, first_number, numbered, raised_of}
 
 use model::{Answer, Refusal};
 
-#[derive(Drop)]
+#[derive(Clone, Copy)]
 pub enum Guarded {
     Pass,
     Refuse(Refusal),

@@ -1,4 +1,6 @@
 // What one call reads and writes: the few elements of the register that it names. A call is decided over these and put back.
+#![tactic(auto)]
+
 pub mod counting;
 pub mod guards;
 pub mod terms;
@@ -13,7 +15,7 @@ use crate::guards::Guarded;
 use model::{Answer, Capability, Role, Session};
 
 // The elements that a call names; an element that it does not name is written back as it was.
-#[derive(Drop)]
+#[derive(Clone, Copy)]
 pub struct Slots {
     pub clock: u32,
     pub enrolled: u64,
@@ -26,7 +28,7 @@ pub struct Slots {
 }
 
 // An answer, and the elements after the call: a refusal gives them back as they came.
-#[derive(Drop)]
+#[derive(Clone, Copy)]
 pub struct Decision {
     pub answer: Answer,
     pub slots: Slots,

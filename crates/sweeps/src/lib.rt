@@ -1,4 +1,6 @@
 // The sweep over all capabilities in rising number: one loop over leaves that take single capabilities.
+#![tactic(auto)]
+
 ghost use Rattle.std.specs.Prelude.{◌≡◌, cond, ◌||◌, min, length};
 ghost use Rattle.std.specs.Int.Bits.{bit_and};
 ghost use Rattle.model.specs.Requests.{effect_of};
@@ -53,7 +55,7 @@ fn cut(c: Capability, grants: u32) -> Capability
 }
 
 // What a call over the whole tree has done to every capability, in rising number.
-#[derive(Drop)]
+#[derive(Clone, Copy)]
 pub enum Sweep {
     // revoke marks capability n and all below it
     Mark(u8),

@@ -1,5 +1,7 @@
 // The journal program over the buffers that it is lent: standard input from a fresh register, the answers on standard output, a
 // fault on standard error. One byte more than the limit is read, so that a longer input is known.
+#![tactic(auto)]
+
 ghost use Rattle.std.specs.Prelude.{◌≡◌, ◌≤◌, length, take};
 ghost use Rattle.masks.specs.Bytes.{front};
 ghost use Rattle.model.specs.Journal.{program};
@@ -13,7 +15,7 @@ pub mod options;
 pub mod transfer;
 
 // What was read and what was written.
-#[derive(Drop)]
+#[derive(Clone, Copy)]
 pub struct Played {
     pub input: Transferred,
     pub output: Transferred,

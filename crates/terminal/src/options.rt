@@ -5,7 +5,7 @@ ghost use Rattle.terminal.specs.Options.{asked};
 
 use buffers::same_bytes;
 
-#[derive(Drop)]
+#[derive(Clone, Copy)]
 pub enum Wish {
     Journal,
     Help,

@@ -6,7 +6,7 @@ ghost use Rattle.terminal.specs.Transfer.{Moves, Transfers};
 use libc::{EAGAIN, EINTR, STDIN_FILENO, STDOUT_FILENO};
 
 // Why a transfer stopped: the input ended, all of the lent bytes were moved, or a call failed and errno says why.
-#[derive(Drop)]
+#[derive(Clone, Copy)]
 pub enum End {
     Ended,
     Whole,
@@ -14,14 +14,14 @@ pub enum End {
 }
 
 // What one call came to: so many bytes, none where it is to be tried again, or the end.
-#[derive(Drop)]
+#[derive(Clone, Copy)]
 enum Moved {
     Bytes(usize),
     Stop(End),
 }
 
 // How many bytes were moved, and why no more.
-#[derive(Drop)]
+#[derive(Clone, Copy)]
 pub struct Transferred {
     pub count: usize,
     pub end: End,

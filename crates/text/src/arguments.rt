@@ -9,13 +9,14 @@ use crate::parts::first_word;
 use buffers::same_bytes;
 use model::{Change, Named};
 
-#[derive(Drop)]
+#[derive(Clone, Copy)]
 pub enum Naming {
     Of(Named),
     NoName,
 }
 
 // The role or the capability with the number n, by the word before the number.
+#[tactic(auto, using(masks::proofs::Truth::told, crate::proofs::ArgumentLaws::name_role, crate::proofs::ArgumentLaws::name_pass, crate::proofs::ArgumentLaws::name_none))]
 fn name(kind: &[u8], n: u32) -> Naming
     ensures { name_of result ≡ origin_in kind.now n }
 {
@@ -28,7 +29,7 @@ fn name(kind: &[u8], n: u32) -> Naming
     Naming::NoName
 }
 
-#[derive(Drop)]
+#[derive(Clone, Copy)]
 pub struct Target {
     pub ok: bool,
     pub on: Named,
@@ -36,6 +37,7 @@ pub struct Target {
 }
 
 // `role` or `pass` and then exactly k numbers, the last arguments of a line.
+#[tactic(auto, using(crate::proofs::PartLaws::next_fits, crate::proofs::ArgumentLaws::target_absent, crate::proofs::ArgumentLaws::target_unread, crate::proofs::ArgumentLaws::target_unnamed, crate::proofs::ArgumentLaws::target_named))]
 pub fn read_target(s: &[u8], k: usize) -> Target
     requires { (0 < k) × (k ≤ 12) }
     ensures { target_of k result ≡ target_in k (after 32 s.now) }
@@ -63,13 +65,14 @@ pub fn read_target(s: &[u8], k: usize) -> Target
     Target { ok: true, on, v }
 }
 
-#[derive(Drop)]
+#[derive(Clone, Copy)]
 pub enum Changing {
     By(Change),
     NoChange,
 }
 
 // What a minus and the number w ask for: "-0 is malformed".
+#[tactic(auto, using(crate::proofs::NumberLaws::read_none, crate::proofs::NumberLaws::read_value, crate::proofs::ArgumentLaws::negative_none, crate::proofs::ArgumentLaws::negative_zero, crate::proofs::ArgumentLaws::negative_some))]
 fn lowering(w: &[u8]) -> Changing
     ensures { by_of result ≡ negative (numeral w.now) }
 {
@@ -84,6 +87,7 @@ fn lowering(w: &[u8]) -> Changing
 }
 
 // A word as a change: "only amend's change may bear a minus".
+#[tactic(auto, using(buffers::proofs::Parts::tail, crate::proofs::NumberLaws::read_none, crate::proofs::NumberLaws::read_value, crate::proofs::ArgumentLaws::change_none, crate::proofs::ArgumentLaws::change_minus, crate::proofs::ArgumentLaws::change_wrong, crate::proofs::ArgumentLaws::change_raise))]
 fn read_change(w: &[u8]) -> Changing
     ensures { by_of result ≡ change_in w.now }
 {
@@ -101,6 +105,7 @@ fn read_change(w: &[u8]) -> Changing
 }
 
 // A change that is the last argument of a line.
+#[tactic(auto, using(crate::proofs::ArgumentLaws::change_absent, crate::proofs::ArgumentLaws::change_more, crate::proofs::ArgumentLaws::change_last))]
 pub fn last_change(s: &[u8]) -> Changing
     ensures { by_of result ≡ last_change (after 32 s.now) }
 {

@@ -1,4 +1,6 @@
 // Lines of the journal: their parts, the numbers and the other arguments in them.
+#![tactic(auto)]
+
 pub mod arguments;
 pub mod numbers;
 pub mod parts;

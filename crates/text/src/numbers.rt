@@ -6,13 +6,14 @@ ghost use Rattle.text.specs.Readers.{value_of, number_in, two_in, values_of};
 
 use crate::parts::first_word;
 
-#[derive(Drop)]
+#[derive(Clone, Copy)]
 pub enum Decimal {
     Value(u32),
     NoNumber,
 }
 
 // The number that the digits of w make.
+#[tactic(auto, using(crate::proofs::NumberLaws::digit_low, crate::proofs::NumberLaws::digit_high, crate::proofs::NumberLaws::digit_large, crate::proofs::NumberLaws::digit_more, crate::proofs::NumberLaws::digits_done))]
 fn digits(w: &[u8]) -> Decimal
     ensures { value_of result ≡ digitsIn 0 w.now }
 {
@@ -36,6 +37,7 @@ fn digits(w: &[u8]) -> Decimal
 }
 
 // A word as a number.
+#[tactic(auto, using(crate::proofs::NumberLaws::numeral_none, crate::proofs::NumberLaws::numeral_leading, crate::proofs::NumberLaws::numeral_zero))]
 pub fn read_decimal(w: &[u8]) -> Decimal
     ensures { value_of result ≡ numeral w.now }
 {
@@ -50,13 +52,14 @@ pub fn read_decimal(w: &[u8]) -> Decimal
     digits(w)
 }
 
-#[derive(Drop)]
+#[derive(Clone, Copy)]
 pub enum Number {
     Read(u32, usize),
     Wrong,
 }
 
 // The number after the separator at the front of s, which is a line from its middle on, and the bytes that both take.
+#[tactic(auto, using(crate::proofs::NumberLaws::read_none, crate::proofs::NumberLaws::read_value, crate::proofs::NumberLaws::number_none, crate::proofs::NumberLaws::number_wrong, crate::proofs::NumberLaws::number_read))]
 pub fn read_number(s: &[u8]) -> Number
     ensures { result ≡ number_in s.now }
 {
@@ -72,13 +75,14 @@ pub fn read_number(s: &[u8]) -> Number
     Number::Read(v, 1 + n)
 }
 
-#[derive(Drop)]
+#[derive(Clone, Copy)]
 pub enum TwoNumbers {
     Both(u32, u32, usize),
     NotBoth,
 }
 
 // Two numbers at the front of s, each after its separator, and the bytes that they take.
+#[tactic(auto, using(masks::proofs::Truth::told, crate::proofs::PartLaws::within_fits, crate::proofs::NumberLaws::number_fits, crate::proofs::NumberLaws::two_none, crate::proofs::NumberLaws::second_wrong, crate::proofs::NumberLaws::second_read, crate::proofs::NumberLaws::second_fits))]
 pub fn read_two(s: &[u8]) -> TwoNumbers
     ensures { result ≡ two_in s.now }
 {
@@ -93,13 +97,14 @@ pub fn read_two(s: &[u8]) -> TwoNumbers
     TwoNumbers::Both(a, b, n + m)
 }
 
-#[derive(Drop)]
+#[derive(Clone, Copy)]
 pub struct Numbers {
     pub ok: bool,
     pub v: [u32; 12],
 }
 
 // Exactly k numbers, the last arguments of a line.
+#[tactic(auto, using(crate::proofs::PartLaws::within_fits, crate::proofs::NumberLaws::number_from_lem, crate::proofs::NumberLaws::prepend_nil, crate::proofs::NumberLaws::numbers_wrong, crate::proofs::NumberLaws::numbers_more, crate::proofs::NumberLaws::numbers_done))]
 pub fn read_numbers(s: &[u8], k: usize) -> Numbers
     requires { k ≤ 12 }
     ensures { values_of k result ≡ numbersIn k (after 32 s.now) }

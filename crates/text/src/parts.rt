@@ -3,6 +3,7 @@ ghost use Rattle.std.specs.Prelude.{◌≡◌, ◌≤◌, length};
 ghost use Rattle.text.specs.Parts.{before, first_word};
 
 // How many bytes of s stand before the first that equals b, or in all of it: where a line ends, with b = 10.
+#[tactic(auto, using(crate::proofs::PartLaws::count_hit, crate::proofs::PartLaws::count_miss, crate::proofs::PartLaws::count_done))]
 pub fn count_before(s: &[u8], b: u8) -> usize
     ensures { (result ≡ length (before b s.now)) × (result ≤ length s.now) }
 {
@@ -17,6 +18,7 @@ pub fn count_before(s: &[u8], b: u8) -> usize
 }
 
 // The first word of a line, as a part of that line.
+#[tactic(auto, using(crate::proofs::PartLaws::word_part))]
 pub fn first_word<'a>(line: &'a [u8]) -> &'a [u8]
     ensures { result.now ≡ first_word line.now }
 {

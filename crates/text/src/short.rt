@@ -7,6 +7,7 @@ ghost use Rattle.text.specs.Readers.{Short, ShortTwo};
 use crate::numbers::{Number, TwoNumbers};
 
 // A word of s ends before its byte i: there is none, or it is a space.
+#[tactic(auto, using(crate::proofs::ShortLaws::ends_byte, crate::proofs::ShortLaws::ends_none))]
 fn ends_at(s: &[u8], i: usize) -> bool
     ensures { result ≡ ends_word (drop i s.now) }
 {
@@ -17,6 +18,7 @@ fn ends_at(s: &[u8], i: usize) -> bool
 }
 
 // The number after the separator at the front of s, and the bytes that both take.
+#[tactic(auto, using(crate::proofs::ShortLaws::short_one, crate::proofs::ShortLaws::short_pair, crate::proofs::ShortLaws::ends_not))]
 pub fn short_number(s: &[u8]) -> Number
     ensures { Short s.now result }
 {
@@ -50,6 +52,7 @@ pub fn short_number(s: &[u8]) -> Number
 }
 
 // Two such numbers.
+#[tactic(auto, using(crate::proofs::PartLaws::within_fits, crate::proofs::ShortLaws::short_fits, crate::proofs::ShortLaws::short_second, crate::proofs::ShortLaws::short_within))]
 pub fn short_two(s: &[u8]) -> TwoNumbers
     ensures { ShortTwo s.now result }
 {

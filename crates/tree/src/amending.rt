@@ -16,7 +16,7 @@ use slots::guards::{Guarded, first};
 use sweeps::Sweep;
 
 // What a change asks for: it is in its range, is 0, would fall below 0; and the limit after it.
-#[derive(Drop)]
+#[derive(Clone, Copy)]
 pub struct Amendment {
     pub ranged: bool,
     pub zero: bool,

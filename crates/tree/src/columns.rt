@@ -16,7 +16,7 @@ fn code_of(o: Origin) -> u16
 }
 
 // The origin and the creator of each capability.
-#[derive(Drop)]
+#[derive(Clone, Copy)]
 pub struct Lineage {
     pub origins: [u16; 256],
     pub creators: [u16; 256],

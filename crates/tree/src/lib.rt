@@ -1,4 +1,6 @@
 // The calls over the whole creation tree: each comes to an answer or a sweep; revoke and same go up the tree by recursion.
+#![tactic(auto)]
+
 pub mod amending;
 mod columns;
 pub mod comparing;

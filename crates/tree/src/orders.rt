@@ -7,7 +7,7 @@ use slots::guards::Guarded;
 use sweeps::Sweep;
 
 // An answer with the register as it was, or a sweep.
-#[derive(Drop)]
+#[derive(Clone, Copy)]
 pub enum Order {
     Answered(Answer),
     Swept(Sweep),

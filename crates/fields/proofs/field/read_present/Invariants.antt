@@ -1,0 +1,17 @@
+use mathlib.Core.Path.{◌≡◌, sym, ◌∙◌}
+use mathlib.Core.List.{[], ◌++◌}
+use Prim.Native.Nat.{◌+◌, ◌-◌, ◌*◌, ◌%◌, ◌≤◌}
+use lib.ListN.{length, take, drop, get_or, length-set, drop_of_length-le}
+use Rattle.model.specs.Fields.{width, read_present, present_length}
+use Rattle.fields.specs.Codes.{coding_of, codings}
+use Rattle.fields.proofs.field.read_present.Given as goal
+
+abbrev pub invariant-loop : goal.invariant-loop
+invariant-loop l = (l.i ≤ length l.codes)
+    × (take l.i l.out ++ read_present l.m (codings (drop l.i l.codes)) (drop l.at l.s) ≡ read_present l.map (codings l.codes) (drop l.from l.s))
+    × (l.at ≤ l.from + 8 * l.i)
+    × (length l.out ≡ length l.initial.l.out)
+    × (l.at + present_length l.m (codings (drop l.i l.codes)) ≡ l.from + present_length l.map (codings l.codes))
+
+abbrev pub decreases-loop : goal.decreases-loop
+decreases-loop l = length l.codes - l.i

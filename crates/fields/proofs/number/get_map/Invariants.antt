@@ -1,0 +1,11 @@
+use mathlib.Core.Path.{◌≡◌}
+use Prim.Native.Nat.{◌+◌, ◌-◌, ◌^◌, ◌≤◌, ◌<◌}
+use lib.ListN.{drop}
+use Rattle.masks.specs.Bytes.{first_bytes, mask_of}
+use Rattle.fields.proofs.number.get_map.Given as goal
+
+abbrev pub invariant-loop : goal.invariant-loop
+invariant-loop l = (l.i ≤ l.k) × (l.x < 256 ^ (l.k - l.i)) × (l.x ≡ mask_of (first_bytes (l.k - l.i) (drop (l.at + l.i) l.s)))
+
+abbrev pub decreases-loop : goal.decreases-loop
+decreases-loop l = l.i

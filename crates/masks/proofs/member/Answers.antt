@@ -1,0 +1,5 @@
+use Rattle.masks.proofs.MaskLaws.{no_bit}
+use Rattle.masks.proofs.member.Goals as goal
+
+pub returns-else-k-lt64 : goal.returns-else-k-lt64
+returns-else-k-lt64 c = search (no_bit 64)
