@@ -93,10 +93,10 @@ module _ (s : List ℕ) (d : Number) (told : Short s d) (v n : ℕ) (e : d ≡ R
 module _ (s : List ℕ) (d d2 : Number) (a n : ℕ) (told : Short s d) (h : d ≡ Read a n) (told2 : Short (take (length s - n) (drop n s)) d2)
     (b m : ℕ) (h2 : d2 ≡ Read b m) where
   pub short_second : Both a b (n + m) ≡ two_in s
-  short_second = second_read s d d2 a n (short_read s d told a n h) h (short_read _ d2 told2 b m h2) b m h2
+  short_second = second_read s d d2 a n (short_read s d told a n h) h (short_read (take (length s - n) (drop n s)) d2 told2 b m h2) b m h2
 
   pub short_within : n + m ≤ length s
-  short_within = second_fits s d d2 a n (short_read s d told a n h) h (short_read _ d2 told2 b m h2) b m h2
+  short_within = second_fits s d d2 a n (short_read s d told a n h) h (short_read (take (length s - n) (drop n s)) d2 told2 b m h2) b m h2
 
 pub short_two_read : (s : List ℕ) (d : TwoNumbers) → ShortTwo s d → (a b n : ℕ) → d ≡ Both a b n → d ≡ two_in s
 short_two_read s d told a b n e = e ∙ subst (ShortTwo s) e told

@@ -5,8 +5,8 @@ use lib.Arith.{le-zero}
 use Rattle.model.specs.Fields.{field_map}
 use Rattle.fields.proofs.field.field_map.Given as goal
 
-abbrev pub invariant-loop : goal.invariant-loop
-invariant-loop l = (l.i ≤ length l.values) × (l.m ≡ field_map (drop l.i l.values)) × (length l.values ≤ 16)
+abbrev pub invariant-loop-i : goal.invariant-loop-i
+invariant-loop-i l = (l.i ≤ length l.values) × (l.m ≡ field_map (drop l.i l.values)) × (length l.values ≤ 16)
 
-abbrev pub decreases-loop : goal.decreases-loop
-decreases-loop l = l.i
+abbrev pub decreases-loop-i : goal.decreases-loop-i
+decreases-loop-i l = l.i

@@ -6,8 +6,8 @@ use Rattle.model.specs.Fields.{width, present_length}
 use Rattle.fields.specs.Codes.{coding_of, codings}
 use Rattle.fields.proofs.field.present_length.Given as goal
 
-abbrev pub invariant-loop : goal.invariant-loop
-invariant-loop l = (l.i ≤ length l.codes) × (l.n + present_length l.m (codings (drop l.i l.codes)) ≡ present_length l.map (codings l.codes)) × (l.n ≤ 8 * l.i)
+abbrev pub invariant-loop-i : goal.invariant-loop-i
+invariant-loop-i l = (l.i ≤ length l.codes) × (l.n + present_length l.m (codings (drop l.i l.codes)) ≡ present_length l.map (codings l.codes)) × (l.n ≤ 8 * l.i)
 
-abbrev pub decreases-loop : goal.decreases-loop
-decreases-loop l = length l.codes - l.i
+abbrev pub decreases-loop-i : goal.decreases-loop-i
+decreases-loop-i l = length l.codes - l.i

@@ -1,9 +1,10 @@
+use Rattle.fields.proofs.Putting.{each_field, FieldsTo}
 use Prim.Native.Nat.{◌-◌}
 use lib.ListN.{length}
 use Rattle.fields.proofs.field.put_all.Given as goal
 
-abbrev pub invariant-loop : goal.invariant-loop
-invariant-loop l = FieldsTo each_field l.codes l.values l.initial.l.s l.s l.at l.i
+abbrev pub invariant-loop-i : goal.invariant-loop-i
+invariant-loop-i l = FieldsTo each_field l.codes l.values l.initial.s l.s l.at l.i
 
-abbrev pub decreases-loop : goal.decreases-loop
-decreases-loop l = length l.codes - l.i
+abbrev pub decreases-loop-i : goal.decreases-loop-i
+decreases-loop-i l = length l.codes - l.i

@@ -6,12 +6,12 @@ use Rattle.model.specs.Fields.{width, read_present, present_length}
 use Rattle.fields.specs.Codes.{coding_of, codings}
 use Rattle.fields.proofs.field.read_present.Given as goal
 
-abbrev pub invariant-loop : goal.invariant-loop
-invariant-loop l = (l.i ≤ length l.codes)
+abbrev pub invariant-loop-i : goal.invariant-loop-i
+invariant-loop-i l = (l.i ≤ length l.codes)
     × (take l.i l.out ++ read_present l.m (codings (drop l.i l.codes)) (drop l.at l.s) ≡ read_present l.map (codings l.codes) (drop l.from l.s))
     × (l.at ≤ l.from + 8 * l.i)
-    × (length l.out ≡ length l.initial.l.out)
+    × (length l.out ≡ length l.initial.out)
     × (l.at + present_length l.m (codings (drop l.i l.codes)) ≡ l.from + present_length l.map (codings l.codes))
 
-abbrev pub decreases-loop : goal.decreases-loop
-decreases-loop l = length l.codes - l.i
+abbrev pub decreases-loop-i : goal.decreases-loop-i
+decreases-loop-i l = length l.codes - l.i

@@ -4,8 +4,8 @@ use lib.ListN.{drop}
 use Rattle.masks.specs.Bytes.{first_bytes, mask_of}
 use Rattle.fields.proofs.number.get_map.Given as goal
 
-abbrev pub invariant-loop : goal.invariant-loop
-invariant-loop l = (l.i ≤ l.k) × (l.x < 256 ^ (l.k - l.i)) × (l.x ≡ mask_of (first_bytes (l.k - l.i) (drop (l.at + l.i) l.s)))
+abbrev pub invariant-loop-i : goal.invariant-loop-i
+invariant-loop-i l = (l.i ≤ l.k) × (l.x < 256 ^ (l.k - l.i)) × (l.x ≡ mask_of (first_bytes (l.k - l.i) (drop (l.at + l.i) l.s)))
 
-abbrev pub decreases-loop : goal.decreases-loop
-decreases-loop l = l.i
+abbrev pub decreases-loop-i : goal.decreases-loop-i
+decreases-loop-i l = l.i

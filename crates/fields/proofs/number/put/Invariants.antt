@@ -1,7 +1,9 @@
+use Rattle.buffers.proofs.Digits.{DigitsFrom}
+use Rattle.fields.proofs.Parts.{byte_digits}
 use Rattle.fields.proofs.number.put.Given as goal
 
-abbrev pub invariant-loop : goal.invariant-loop
-invariant-loop l = DigitsFrom byte_digits l.k l.n l.initial.l.s l.s l.i l.x
+abbrev pub invariant-loop-i : goal.invariant-loop-i
+invariant-loop-i l = DigitsFrom byte_digits l.k l.n l.initial.s l.s l.i l.x
 
-abbrev pub decreases-loop : goal.decreases-loop
-decreases-loop l = l.i
+abbrev pub decreases-loop-i : goal.decreases-loop-i
+decreases-loop-i l = l.i

@@ -1,8 +1,9 @@
+use Rattle.origins.proofs.Filling.{Filled}
 use Prim.Native.Nat.{ℕ, ◌≤◌, ◌<◌, ◌-◌}
 use Rattle.origins.proofs.authority.columns_of.Given as goal
 
-abbrev pub invariant-loop : goal.invariant-loop
-invariant-loop l = (l.i ≤ 32) × Filled l.columns l.roles l.i
+abbrev pub invariant-loop-i : goal.invariant-loop-i
+invariant-loop-i l = (l.i ≤ 32) × Filled l.columns l.roles l.i
 
-abbrev pub decreases-loop : goal.decreases-loop
-decreases-loop l = 32 - l.i
+abbrev pub decreases-loop-i : goal.decreases-loop-i
+decreases-loop-i l = 32 - l.i

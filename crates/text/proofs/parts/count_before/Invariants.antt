@@ -4,9 +4,8 @@ use lib.ListN.{length, drop}
 use Rattle.text.specs.Parts.{before}
 use Rattle.text.proofs.parts.count_before.Given as goal
 
-abbrev pub invariant-loop : goal.invariant-loop
-invariant-loop l = (l.i ≤ length l.s) × (l.i + length (before l.b (drop l.i l.s)) ≡ length (before l.b l.s))
+abbrev pub invariant-loop-i : goal.invariant-loop-i
+invariant-loop-i l = (l.i ≤ length l.s) × (l.i + length (before l.b (drop l.i l.s)) ≡ length (before l.b l.s))
 
-abbrev pub decreases-loop : goal.decreases-loop
-decreases-loop l = length l.s - l.i
-
+abbrev pub decreases-loop-i : goal.decreases-loop-i
+decreases-loop-i l = length l.s - l.i
