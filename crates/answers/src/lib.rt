@@ -10,6 +10,7 @@ ghost use Rattle.answers.specs.Writing.{printed_into, filled};
 use model::{Answer, refusal_number};
 
 // How many decimal digits n has.
+#[tactic(auto, using(crate::proofs::AnswerLaws::Counted, crate::proofs::AnswerLaws::count_done, crate::proofs::AnswerLaws::count_turn))]
 fn digit_count(n: u32) -> usize
     ensures { result ≡ digit_count 9 n }
 {
@@ -23,6 +24,7 @@ fn digit_count(n: u32) -> usize
 }
 
 // Writes n as k decimal digits at the front of s.
+#[tactic(auto, using(buffers::proofs::Digits::DigitsFrom, buffers::proofs::Digits::digits_start, buffers::proofs::Digits::digits_step, buffers::proofs::Digits::digits_done))]
 fn put_digits(s: &mut [u8], k: usize, n: u32)
     requires { k ≤ length s.old }
     ensures { s.new ≡ front (digits_of k n) s.old }
@@ -56,6 +58,7 @@ fn put_end(s: &mut [u8])
 
 // Writes two letters, a space, n and a line feed at the front of s and returns how many bytes that are. Where s has no
 // room for them, it returns 0 and writes nothing.
+#[tactic(auto, using(crate::proofs::AnswerLaws::end_fits, crate::proofs::AnswerLaws::none_filled, crate::proofs::AnswerLaws::none_printed))]
 fn put_line(s: &mut [u8], x: u8, y: u8, n: u32) -> usize
     ensures { (result ≡ filled (answer_line (x ∷ y ∷ []) n) s.old) × (s.new ≡ printed_into (answer_line (x ∷ y ∷ []) n) s.old) }
 {

@@ -41,7 +41,6 @@ fn keeps_all(enrolled: u64, peers: u64, x: Role) -> bool
 }
 
 #[tactic(auto, using(masks::proofs::Truth::cond_true, masks::proofs::Truth::cond_false))]
-
 pub fn role_keeps(enrolled: u64, peers: u64, x: Role) -> bool
     ensures { result ≡ role_keeps_with enrolled peers x }
 {

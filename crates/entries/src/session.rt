@@ -39,7 +39,6 @@ fn keeps_all(enrolled: u64, there: bool, u: Allowance, s: Session) -> bool
 }
 
 #[tactic(auto, using(masks::proofs::Truth::cond_true, masks::proofs::Truth::cond_false), unfolding(crate::specs::Limits::session_keeps_with))]
-
 pub fn session_keeps(enrolled: u64, there: bool, u: Allowance, s: Session) -> bool
     ensures { result ≡ session_keeps_with enrolled there (terms_in u) s }
 {

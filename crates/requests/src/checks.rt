@@ -13,6 +13,7 @@ pub enum Quick {
     Unread,
 }
 
+#[tactic(auto, using(crate::proofs::QuickLaws::two_within, crate::proofs::QuickLaws::check_right))]
 pub fn check_of(line: &[u8]) -> Quick
     ensures { Quickly line.now result }
 {

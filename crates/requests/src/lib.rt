@@ -91,6 +91,7 @@ fn plain_of(w: Plain, v: [u32; 12]) -> Request
 }
 
 // A word that only numbers follow.
+#[tactic(auto, using(crate::proofs::WordLaws::arity_small, crate::proofs::WordLaws::plain_wrong, crate::proofs::WordLaws::plain_right))]
 fn plain_request(w: Plain, s: &[u8]) -> Parsed
     ensures { parsed_call result ≡ asks (onlyNumbers w) (after 32 s.now) }
 {
@@ -120,6 +121,7 @@ fn plan_of(v: [u32; 12]) -> Plan
 }
 
 // The arguments of create.
+#[tactic(auto, using(text::proofs::NumberLaws::number_fits, crate::proofs::RequestLaws::create_none, crate::proofs::RequestLaws::create_wrong, crate::proofs::RequestLaws::create_right))]
 fn create_request(s: &[u8]) -> Parsed
     ensures { parsed_call result ≡ create_in (after 32 s.now) }
 {
@@ -140,6 +142,7 @@ fn create_request(s: &[u8]) -> Parsed
 }
 
 // The arguments of open.
+#[tactic(auto, using(text::proofs::NumberLaws::two_fits, crate::proofs::RequestLaws::open_none, crate::proofs::RequestLaws::open_wrong, crate::proofs::RequestLaws::open_right))]
 fn open_request(s: &[u8]) -> Parsed
     ensures { parsed_call result ≡ open_in (after 32 s.now) }
 {
@@ -159,6 +162,7 @@ fn open_request(s: &[u8]) -> Parsed
 }
 
 // The arguments of amend.
+#[tactic(auto, using(text::proofs::NumberLaws::two_fits, crate::proofs::RequestLaws::amend_none, crate::proofs::RequestLaws::amend_wrong, crate::proofs::RequestLaws::amend_right))]
 fn amend_request(s: &[u8]) -> Parsed
     ensures { parsed_call result ≡ amend_in (after 32 s.now) }
 {
@@ -174,6 +178,7 @@ fn amend_request(s: &[u8]) -> Parsed
 }
 
 // The request of a word, by what follows it in its line.
+#[tactic(auto, using(crate::proofs::WordLaws::asks_plain, crate::proofs::WordLaws::asks_create, crate::proofs::WordLaws::asks_open, crate::proofs::WordLaws::asks_amend, crate::proofs::WordLaws::asks_none))]
 fn request_of(w: Word, s: &[u8]) -> Parsed
     ensures { parsed_call result ≡ asks w (after 32 s.now) }
 {
@@ -187,6 +192,7 @@ fn request_of(w: Word, s: &[u8]) -> Parsed
 }
 
 // The request of a line without its line feed, or that it is none.
+#[tactic(auto, using(crate::proofs::WordLaws::word_within))]
 pub fn parse(line: &[u8]) -> Parsed
     ensures { parsed_call result ≡ parsed line.now }
 {

@@ -52,6 +52,7 @@ pub enum Word {
 }
 
 // The request word that w is.
+#[tactic(auto, using(crate::proofs::WordLaws::hit, crate::proofs::WordLaws::miss6), unfolding(crate::specs::Spelling::asks, model::specs::Lines::forms))]
 pub fn word_of(w: &[u8]) -> Word
     ensures { (args : List (List ℕ)) → by_word w.now args forms ≡ asks result args }
 {
@@ -77,6 +78,7 @@ pub fn word_of(w: &[u8]) -> Word
 }
 
 // The words from clock to hand.
+#[tactic(auto, using(crate::proofs::WordLaws::hit, crate::proofs::WordLaws::miss5), unfolding(crate::specs::Spelling::asks, model::specs::Lines::forms))]
 fn delegation_word(w: &[u8]) -> Word
     ensures { (args : List (List ℕ)) → by_word w.now args (drop 6 forms) ≡ asks result args }
 {
@@ -99,6 +101,7 @@ fn delegation_word(w: &[u8]) -> Word
 }
 
 // The words from open to same.
+#[tactic(auto, using(crate::proofs::WordLaws::hit, crate::proofs::WordLaws::miss6), unfolding(crate::specs::Spelling::asks, model::specs::Lines::forms))]
 fn session_word(w: &[u8]) -> Word
     ensures { (args : List (List ℕ)) → by_word w.now args (drop 11 forms) ≡ asks result args }
 {

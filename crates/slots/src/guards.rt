@@ -20,6 +20,7 @@ pub fn first(applies: bool, why: Refusal, later: Guarded) -> Guarded
 }
 
 // The answer of a call that changes nothing, whatever its guards; the value need be the call's only where none applies.
+#[tactic(auto, using(crate::proofs::GuardLaws::pass_clear, crate::proofs::GuardLaws::verdict_refused, crate::proofs::GuardLaws::verdict_passed))]
 pub fn answered(k: Guarded, value: u32) -> Answer
     ensures { (gs : List Guard) (n : ℕ) → T (numbered gs) → guarded k ≡ first_number gs → (Clear gs → value ≡ n) → outcome_of result ≡ verdict gs n }
 {
@@ -30,6 +31,7 @@ pub fn answered(k: Guarded, value: u32) -> Answer
 }
 
 // One more, below a limit.
+#[tactic(auto, using(masks::proofs::Truth::cond_true, masks::proofs::Truth::cond_false), unfolding(crate::specs::Guards::raised_of))]
 pub fn raised(x: u16, limit: u16) -> u16
     ensures { result ≡ raised_of x limit }
 {

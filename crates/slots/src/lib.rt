@@ -36,6 +36,7 @@ pub struct Decision {
 
 // A call, whatever its guards: refused, the elements v stay as they came; else w is put in their place. Value and elements need be
 // the call's only where no guard applies.
+#[tactic(auto, using(crate::proofs::GuardLaws::pass_clear, crate::proofs::GuardLaws::refuse_ruled, crate::proofs::GuardLaws::pass_ruled))]
 pub fn settle(v: Slots, k: Guarded, value: u32, w: Slots) -> Decision
     ensures { (gs : List Guard) (n : ℕ) (u : SlotsHeld) → T (numbered gs) → guarded k ≡ first_number gs → (Clear gs → (value ≡ n) × (w ≡ u)) → ruled_of result ≡ settled v gs n u }
 {

@@ -22,6 +22,7 @@ fn marked(c: Capability, named: bool, above: bool) -> Capability
 }
 
 // 1 where the test passes.
+#[tactic(auto, using(masks::proofs::Truth::cond_true, masks::proofs::Truth::cond_false), unfolding(crate::specs::Sweeping::one_if))]
 pub fn one_if(test: bool) -> u32
     ensures { result ≡ one_if test }
 {
@@ -29,6 +30,7 @@ pub fn one_if(test: bool) -> u32
 }
 
 // The capability named gets the limit; any other keeps its own, cut to its origin's.
+#[tactic(auto, using(masks::proofs::Truth::cond_false))]
 fn limit_for(named: bool, limit: u16, own: u16, bound: u16) -> u16
     ensures { result ≡ cond named limit (min own bound) }
 {
@@ -113,6 +115,7 @@ fn sweep_value(s: Sweep, marks: u32) -> u32
 }
 
 // One sweep over all capabilities; the register is one local.
+#[tactic(auto, using(crate::proofs::SweepLaws::sweep_more, crate::proofs::SweepLaws::sweep_done, crate::proofs::SweepLaws::count_more, crate::proofs::SweepLaws::one_le, crate::proofs::SweepLaws::newly_step, crate::proofs::SweepLaws::swept_step, crate::proofs::SweepLaws::after_amount), unfolding(masks::specs::Tests::rising, masks::specs::Tests::count_below))]
 pub fn sweep_all(r: Register, s: Sweep) -> Reply
     requires { length r.roles ≡ 32 }
     ensures { effect_of result ≡ swept_by r s }

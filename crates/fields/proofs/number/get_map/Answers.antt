@@ -10,7 +10,7 @@ use Rattle.fields.proofs.number.get_map.Goals as goal
 
 pub overflow_mul-x : goal.overflow_mul-x
 overflow_mul-x c =
-    omega (arith, byte_fits (c.args.k - c.loop-i.i) (search) 0 (omega arith) (search) (omega arith))
+    omega (arith, byte_fits (c.args.k - c.loop-i.i) c.loop-i.x 0 (omega arith) c.loop-i.invariant.1 (omega arith))
 
 pub overflow_add-x : goal.overflow_add-x
 overflow_add-x c =

@@ -1,0 +1,10 @@
+use Rattle.buffers.proofs.Digits.{DigitsFrom, digits_start, digits_step, digits_done}
+use Rattle.answers.proofs.AnswerLaws.{decimal-digits}
+use borrow.Author.Rules.{rules}
+use Rattle.answers.proofs.put_digits.Given as goal
+
+abbrev pub invariant-loop-i : goal.invariant-loop-i
+invariant-loop-i l = DigitsFrom decimal-digits l.k l.n l.initial.s l.s l.i l.x
+
+abbrev pub decreases-loop-i : goal.decreases-loop-i
+decreases-loop-i l = l.i
