@@ -12,6 +12,7 @@ use model::{Refusal, Role};
 use slots::guards::{Guarded, first};
 use slots::{Decision, Slots, settle};
 
+#[tactic(auto, using(slots::proofs::GuardLaws::test, slots::proofs::GuardLaws::test_unless, slots::proofs::GuardLaws::nothing_more))]
 fn enrol_guards(enrolled: u64, user: u32, domain: u32) -> Guarded
     ensures { guarded result ≡ first_number (enrolling enrolled user domain).guards }
 {
@@ -20,6 +21,7 @@ fn enrol_guards(enrolled: u64, user: u32, domain: u32) -> Guarded
     first(!((user < 64) & (domain < 8)), Refusal::Range, k)
 }
 
+#[tactic(auto, using(model::proofs::Settling::passed, origins::proofs::Laws::in_range_lem), unfolding(crate::specs::Administration::enrol_decision))]
 pub fn decide_enrol(v: Slots, user: u32, domain: u32) -> Decision
     ensures { ruled_of result ≡ enrol_decision v user domain }
 {
@@ -30,6 +32,7 @@ pub fn decide_enrol(v: Slots, user: u32, domain: u32) -> Decision
     settle(v, k, 0, w)
 }
 
+#[tactic(auto, using(slots::proofs::GuardLaws::test, slots::proofs::GuardLaws::test_unless, slots::proofs::GuardLaws::nothing_more))]
 fn found_guards(x: Role, role: u32, domain: u32, hours: u32, places: u32, devices: u32) -> Guarded
     ensures { guarded result ≡ first_number (founding x role domain hours places devices).guards }
 {
@@ -41,6 +44,7 @@ fn found_guards(x: Role, role: u32, domain: u32, hours: u32, places: u32, device
     )
 }
 
+#[tactic(auto, using(model::proofs::Settling::passed, origins::proofs::Laws::in_range_lem), unfolding(crate::specs::Administration::found_decision))]
 pub fn decide_found(
     v: Slots,
     role: u32,
@@ -67,6 +71,7 @@ pub fn decide_found(
     settle(v, k, 0, w)
 }
 
+#[tactic(auto, using(slots::proofs::GuardLaws::test, slots::proofs::GuardLaws::test_unless, slots::proofs::GuardLaws::nothing_more))]
 fn grant_guards(x: Role, role: u32, permission: u32) -> Guarded
     ensures { guarded result ≡ first_number (granting x role permission).guards }
 {
@@ -76,6 +81,7 @@ fn grant_guards(x: Role, role: u32, permission: u32) -> Guarded
     first(!((role < 32) & (permission < 32)), Refusal::Range, k)
 }
 
+#[tactic(auto, using(model::proofs::Settling::passed, origins::proofs::Laws::in_range_lem), unfolding(crate::specs::Administration::grant_decision))]
 pub fn decide_grant(v: Slots, role: u32, permission: u32) -> Decision
     ensures { ruled_of result ≡ grant_decision v role permission }
 {
@@ -88,6 +94,7 @@ pub fn decide_grant(v: Slots, role: u32, permission: u32) -> Decision
     settle(v, k, 0, w)
 }
 
+#[tactic(auto, using(slots::proofs::GuardLaws::test, slots::proofs::GuardLaws::test_unless, slots::proofs::GuardLaws::nothing_more))]
 fn appoint_guards(enrolled: u64, domain: u8, x: Role, user: u32, role: u32) -> Guarded
     ensures { guarded result ≡ first_number (appointing enrolled domain x user role).guards }
 {
@@ -99,6 +106,7 @@ fn appoint_guards(enrolled: u64, domain: u8, x: Role, user: u32, role: u32) -> G
     first(!((user < 64) & (role < 32)), Refusal::Range, k)
 }
 
+#[tactic(auto, using(model::proofs::Settling::passed, origins::proofs::Laws::in_range_lem), unfolding(crate::specs::Administration::appoint_decision))]
 pub fn decide_appoint(v: Slots, user: u32, role: u32) -> Decision
     ensures { ruled_of result ≡ appoint_decision v user role }
 {
@@ -111,6 +119,7 @@ pub fn decide_appoint(v: Slots, user: u32, role: u32) -> Decision
     settle(v, k, 0, w)
 }
 
+#[tactic(auto, using(slots::proofs::GuardLaws::test_unless, slots::proofs::GuardLaws::nothing_more))]
 fn dismiss_guards(enrolled: u64, x: Role, user: u32, role: u32) -> Guarded
     ensures { guarded result ≡ first_number (dismissing enrolled x user role).guards }
 {
@@ -121,6 +130,7 @@ fn dismiss_guards(enrolled: u64, x: Role, user: u32, role: u32) -> Guarded
     first(!((user < 64) & (role < 32)), Refusal::Range, k)
 }
 
+#[tactic(auto, using(model::proofs::Settling::passed, origins::proofs::Laws::in_range_lem), unfolding(crate::specs::Administration::dismiss_decision))]
 pub fn decide_dismiss(v: Slots, user: u32, role: u32) -> Decision
     ensures { ruled_of result ≡ dismiss_decision v user role }
 {
@@ -133,12 +143,14 @@ pub fn decide_dismiss(v: Slots, user: u32, role: u32) -> Decision
     settle(v, k, 0, w)
 }
 
+#[tactic(auto, using(masks::proofs::Truth::and_i, slots::proofs::GuardLaws::test, slots::proofs::GuardLaws::known, slots::proofs::GuardLaws::nothing_more))]
 fn clock_guards(clock: u32, tick: u32) -> Guarded
     ensures { guarded result ≡ first_number (ticking clock tick).guards }
 {
     first(tick < clock, Refusal::Past, Guarded::Pass)
 }
 
+#[tactic(auto, unfolding(crate::specs::Administration::clock_decision))]
 pub fn decide_clock(v: Slots, tick: u32) -> Decision
     ensures { ruled_of result ≡ clock_decision v tick }
 {

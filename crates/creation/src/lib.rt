@@ -21,6 +21,7 @@ use slots::terms::origin_allows;
 use slots::{Decision, Slots, settle};
 
 // The numbers of a request are in their ranges; the first tick is at most the last.
+#[tactic(auto, using(masks::proofs::Truth::left_each))]
 fn in_ranges(user: u32, origin: Named, at: Context, plan: Plan) -> bool
     ensures { result ≡ each (create_ranges user (named_origin origin) at plan) }
 {
@@ -65,6 +66,7 @@ fn made(user: u32, origin: Named, plan: Plan) -> Capability
 }
 
 // The tests of create, from the last to the first: the origin o is read from its slot and allows a.
+#[tactic(auto, using(slots::proofs::GuardLaws::test, slots::proofs::GuardLaws::test_unless, slots::proofs::GuardLaws::test_ranged, slots::proofs::GuardLaws::nothing_more, crate::proofs::Laws::made_exact))]
 fn create_guards(
     v: Slots,
     o: Origin,
@@ -100,6 +102,7 @@ fn create_guards(
 }
 
 // The slot `role` or `parent` is the origin, the slot `capability` the place of the new capability.
+#[tactic(auto, using(model::proofs::Settling::passed, origins::proofs::Laws::named_exact, slots::proofs::GuardLaws::raised_below, slots::proofs::CountLaws::created_below, crate::proofs::Laws::create_agrees, crate::proofs::Laws::made_exact), unfolding(crate::specs::Creation::create_decision))]
 pub fn decide_create(
     v: Slots,
     columns: &[u32; 64],

@@ -16,6 +16,7 @@ use slots::terms::origin_allows;
 use slots::{Decision, Slots, settle};
 
 // The tests of hand, from the last to the first.
+#[tactic(auto, using(slots::proofs::GuardLaws::test, slots::proofs::GuardLaws::test_unless, slots::proofs::GuardLaws::nothing_more))]
 fn hand_guards(
     enrolled: u64,
     count: u16,
@@ -46,6 +47,7 @@ fn hand_guards(
 }
 
 // The tests of allow and lend: `given` is what the origin may give, `had` what the capability has already.
+#[tactic(auto, using(slots::proofs::GuardLaws::test, slots::proofs::GuardLaws::test_unless, slots::proofs::GuardLaws::nothing_more, crate::proofs::Laws::and_sure))]
 fn give_guards(
     enrolled: u64,
     count: u16,
@@ -95,6 +97,7 @@ fn give(v: Slots, columns: &[u32; 64], user: u32, number: u32, mask: u32, e: Ext
 }
 
 // The slot `capability` is the capability handed on.
+#[tactic(auto, using(model::proofs::Settling::passed, origins::proofs::Laws::in_range_lem, slots::proofs::GuardLaws::raised_below), unfolding(crate::specs::Giving::hand_decision))]
 pub fn decide_hand(v: Slots, user: u32, receiver: u32, number: u32) -> Decision
     ensures { ruled_of result ≡ hand_decision v user receiver number }
 {
@@ -110,6 +113,7 @@ pub fn decide_hand(v: Slots, user: u32, receiver: u32, number: u32) -> Decision
 }
 
 // The slot `capability` is the capability named; the slot `role` or `parent` is its origin.
+#[tactic(auto, using(crate::proofs::Laws::give_agrees), unfolding(crate::specs::Giving::allow_decision))]
 pub fn decide_allow(v: Slots, columns: &[u32; 64], user: u32, number: u32, mask: u32) -> Decision
     ensures { ruled_of result ≡ allow_decision v columns.now user number mask }
 {
@@ -126,6 +130,7 @@ pub fn decide_allow(v: Slots, columns: &[u32; 64], user: u32, number: u32, mask:
 }
 
 // The same slots, for the roles that the origin may lend.
+#[tactic(auto, using(crate::proofs::Laws::give_agrees), unfolding(crate::specs::Giving::lend_decision))]
 pub fn decide_lend(v: Slots, columns: &[u32; 64], user: u32, number: u32, mask: u32) -> Decision
     ensures { ruled_of result ≡ lend_decision v columns.now user number mask }
 {

@@ -9,6 +9,7 @@ use fields::field::{field_map, read_all, read_present};
 use model::{Capability, Origin, Role, Session};
 
 // A role of its fields.
+#[tactic(auto, unfolding(model::specs::Fields::role_codings, model::specs::Fields::role_of))]
 fn role_of(f: [u64; 6]) -> Role
     requires { Fitted role_codings f }
     ensures { result ≡ role_of f }
@@ -24,6 +25,7 @@ fn role_of(f: [u64; 6]) -> Role
     }
 }
 
+#[tactic(auto, using(crate::proofs::Tables::says_table, crate::proofs::Tables::role_codes_lem, crate::proofs::Tables::role_count, crate::proofs::Tables::role_reads, masks::proofs::Truth::the))]
 pub fn read_role(s: &[u8], at: usize) -> Role
     requires { (at < 60000) × Bytes s.now }
     ensures { result ≡ read_role (drop at s.now) }
@@ -35,6 +37,7 @@ pub fn read_role(s: &[u8], at: usize) -> Role
 }
 
 // "kind (1: 0 role, 1 pass), number (1)"
+#[tactic(auto, using(crate::proofs::Records::origin_capability, masks::proofs::Truth::the))]
 fn origin_of(kind: u64, n: u64) -> Origin
     requires { n < 256 }
     ensures { result ≡ origin_of kind n }
@@ -46,6 +49,7 @@ fn origin_of(kind: u64, n: u64) -> Origin
 }
 
 // A session of its fields.
+#[tactic(auto, unfolding(model::specs::Fields::session_codings, model::specs::Fields::session_of))]
 fn session_of(f: [u64; 6]) -> Session
     requires { Fitted session_codings f }
     ensures { result ≡ session_of f }
@@ -60,6 +64,7 @@ fn session_of(f: [u64; 6]) -> Session
     }
 }
 
+#[tactic(auto, using(crate::proofs::Tables::says_table, crate::proofs::Tables::session_codes_lem, crate::proofs::Tables::session_count, crate::proofs::Tables::session_reads, masks::proofs::Truth::the))]
 pub fn read_session(s: &[u8], at: usize) -> Session
     requires { (at < 60000) × Bytes s.now }
     ensures { result ≡ read_session (drop at s.now) }
@@ -71,6 +76,7 @@ pub fn read_session(s: &[u8], at: usize) -> Session
 }
 
 // A capability of its head and its fields.
+#[tactic(auto, using(fields::proofs::Reading::bits_of, fields::proofs::Reading::fitted_fits), unfolding(model::specs::Fields::head_codings, model::specs::Fields::capability_of, model::specs::Fields::capability_codings))]
 fn capability_of(h: [u64; 4], f: [u64; 15]) -> Capability
     requires { Fitted head_codings h × Fitted capability_codings f }
     ensures { result ≡ capability_of h f }
@@ -97,6 +103,7 @@ fn capability_of(h: [u64; 4], f: [u64; 15]) -> Capability
 }
 
 // The head of the capability at `at`.
+#[tactic(auto, using(crate::proofs::Tables::says_table, crate::proofs::Tables::head_codes_lem, crate::proofs::Tables::head_count, crate::proofs::Tables::head_reads))]
 fn read_head(s: &[u8], at: usize) -> [u64; 4]
     requires { at < 60000 }
     ensures { result ≡ read_head (drop at s.now) }
@@ -115,6 +122,7 @@ pub struct ReadCapability {
 }
 
 // The capability at `at`, whether it is written exactly so, and the place after it.
+#[tactic(auto, using(crate::proofs::Tables::says_table, crate::proofs::Tables::capability_codes_lem, crate::proofs::Tables::capability_count, crate::proofs::Tables::head_fitted, crate::proofs::Tables::present_fitted, crate::proofs::Tables::capability_reads, crate::proofs::Tables::exact_reads, crate::proofs::Tables::length_reads, masks::proofs::Truth::the))]
 pub fn read_capability(s: &[u8], at: usize) -> ReadCapability
     requires { (at < 50000) × Bytes s.now }
     ensures { (result.capability ≡ read_capability (drop at s.now)) × (result.next ≡ at + capability_length (drop at s.now)) × (result.exact ≡ exact_capability (drop at s.now)) }

@@ -8,6 +8,7 @@ use fields::field::{field_map, present_length, put_all, put_present};
 use model::{Capability, Origin, Role, Session};
 
 // "domain (1), permissions (4), hours (3), places (2), devices (2), appointed (8, as a map)"
+#[tactic(auto, unfolding(crate::specs::Codes::role_codes))]
 pub fn role_codes() -> [u8; 6]
     ensures { result ≡ role_codes }
 {
@@ -15,6 +16,7 @@ pub fn role_codes() -> [u8; 6]
 }
 
 // "user (1), kind (1: 0 role, 1 pass), number (1), hour, place, device (1 each)"
+#[tactic(auto, unfolding(crate::specs::Codes::session_codes))]
 pub fn session_codes() -> [u8; 6]
     ensures { result ≡ session_codes }
 {
@@ -22,6 +24,7 @@ pub fn session_codes() -> [u8; 6]
 }
 
 // "kind, number, creator (1 each), then a 2-byte map as a number"
+#[tactic(auto, unfolding(crate::specs::Codes::head_codes))]
 pub fn head_codes() -> [u8; 4]
     ensures { result ≡ head_codes }
 {
@@ -30,6 +33,7 @@ pub fn head_codes() -> [u8; 4]
 
 // "0 permissions (4), 1 roles (4), 2 holders (8, as a map), 3 first (4), 4 last (4), 5 to 10 .. (2 each), 11 hours (3),
 // 12 places (2), 13 devices (2). Bit 14 is the revoked mark and has no field"
+#[tactic(auto, unfolding(crate::specs::Codes::capability_codes))]
 pub fn capability_codes() -> [u8; 15]
     ensures { result ≡ capability_codes }
 {
@@ -60,6 +64,7 @@ pub fn bit_of(b: bool) -> u64
     if b { 1 } else { 0 }
 }
 
+#[tactic(auto, unfolding(model::specs::Fields::role_fields))]
 fn role_fields(x: Role) -> [u64; 6]
     ensures { result ≡ role_fields x }
 {
@@ -74,6 +79,7 @@ fn role_fields(x: Role) -> [u64; 6]
 }
 
 // Writes a role at the front of a part; the bytes written.
+#[tactic(auto, using(crate::proofs::Tables::Writes, crate::proofs::Tables::role_writes, masks::proofs::Truth::the))]
 pub fn put_role(s: &mut [u8], x: Role) -> usize
     requires { length (write_role x) ≤ length s.old }
     ensures { (result ≡ length (write_role x)) × (s.new ≡ front (write_role x) s.old) }
@@ -83,6 +89,7 @@ pub fn put_role(s: &mut [u8], x: Role) -> usize
     put_all(s, &codes, &values)
 }
 
+#[tactic(auto, unfolding(model::specs::Fields::session_fields))]
 fn session_fields(x: Session) -> [u64; 6]
     ensures { result ≡ session_fields x }
 {
@@ -98,6 +105,7 @@ fn session_fields(x: Session) -> [u64; 6]
 }
 
 // Writes a session at the front of a part; the bytes written.
+#[tactic(auto, using(crate::proofs::Tables::Writes, crate::proofs::Tables::session_writes, masks::proofs::Truth::the))]
 pub fn put_session(s: &mut [u8], x: Session) -> usize
     requires { length (write_session x) ≤ length s.old }
     ensures { (result ≡ length (write_session x)) × (s.new ≡ front (write_session x) s.old) }
@@ -107,6 +115,7 @@ pub fn put_session(s: &mut [u8], x: Session) -> usize
     put_all(s, &codes, &values)
 }
 
+#[tactic(auto, unfolding(model::specs::Fields::capability_fields))]
 fn capability_fields(c: Capability) -> [u64; 15]
     ensures { result ≡ capability_fields c }
 {
@@ -129,6 +138,7 @@ fn capability_fields(c: Capability) -> [u64; 15]
     ]
 }
 
+#[tactic(auto, unfolding(model::specs::Fields::head_fields))]
 fn head_fields(c: Capability, map: u64) -> [u64; 4]
     requires { map ≡ field_map (capability_fields c) }
     ensures { result ≡ head_fields c }
@@ -138,6 +148,7 @@ fn head_fields(c: Capability, map: u64) -> [u64; 4]
 }
 
 // Writes the head of a capability, with the map of its fields; it has 5 bytes.
+#[tactic(auto, using(crate::proofs::Tables::Writes, crate::proofs::Tables::head_writes, crate::proofs::Tables::head_length, masks::proofs::Truth::the))]
 fn put_head(s: &mut [u8], c: Capability, map: u64)
     requires { (map ≡ field_map (capability_fields c)) × (5 ≤ length s.old) }
     ensures { s.new ≡ front (write_head c) s.old }
@@ -148,6 +159,7 @@ fn put_head(s: &mut [u8], c: Capability, map: u64)
 }
 
 // Writes a capability at the front of a part; the bytes written.
+#[tactic(auto, using(buffers::proofs::Parts::length_tail, crate::proofs::Tables::present_writes, crate::proofs::Tables::capability_size))]
 pub fn put_capability(s: &mut [u8], c: Capability) -> usize
     requires { length (write_capability c) ≤ length s.old }
     ensures { (result ≡ length (write_capability c)) × (s.new ≡ front (write_capability c) s.old) }
@@ -160,6 +172,7 @@ pub fn put_capability(s: &mut [u8], c: Capability) -> usize
 }
 
 // The bytes of a capability, of which none is written.
+#[tactic(auto, using(crate::proofs::Tables::capability_codes_lem, crate::proofs::Tables::capability_count, crate::proofs::Tables::capability_counted, crate::proofs::Tables::says_table))]
 pub fn capability_length(c: Capability) -> usize
     ensures { result ≡ length (write_capability c) }
 {

@@ -7,4 +7,4 @@ use Rattle.masks.proofs.Truth.{the}
 use Rattle.fields.proofs.field.put_present.Goals as goal
 
 pub loop-i-preserved : goal.loop-i-preserved
-loop-i-preserved c = fields_step c.loop-i.invariant (search) c.put_field-n.ensures (search)
+loop-i-preserved c = fields_step c.loop-i.invariant (search) c.put_set-n.ensures (search)
