@@ -17,6 +17,7 @@ pub mod length;
 mod section;
 
 // "map of enrolled users (8), a domain byte each"; the bytes written.
+#[tactic(auto, using(buffers::proofs::Parts::length_tail, crate::proofs::Whole::mapped_room))]
 fn put_users(s: &mut [u8], enrolled: u64, domains: [u8; 64]) -> usize
     requires { length (mapped 8 (bytes_of 1) enrolled domains) ≤ length s.old }
     ensures { (result ≡ length (mapped 8 (bytes_of 1) enrolled domains)) × (s.new ≡ front (mapped 8 (bytes_of 1) enrolled domains) s.old) }
@@ -27,6 +28,7 @@ fn put_users(s: &mut [u8], enrolled: u64, domains: [u8; 64]) -> usize
 }
 
 // "map of roles (4), each with .."; the bytes written.
+#[tactic(auto, using(buffers::proofs::Parts::length_tail, crate::proofs::Whole::mapped_room))]
 fn put_founded(s: &mut [u8], roles: [Role; 32]) -> usize
     requires { length (mapped 4 write_role (founded_roles roles) roles) ≤ length s.old }
     ensures { (result ≡ length (mapped 4 write_role (founded_roles roles) roles)) × (s.new ≡ front (mapped 4 write_role (founded_roles roles) roles) s.old) }
@@ -38,6 +40,7 @@ fn put_founded(s: &mut [u8], roles: [Role; 32]) -> usize
 }
 
 // "pass count (2); the passes"; the bytes written.
+#[tactic(auto, using(buffers::proofs::Parts::length_tail, crate::proofs::Whole::counted_size, crate::proofs::Whole::counted_written))]
 fn put_counted(s: &mut [u8], count: usize, capabilities: [Capability; 256]) -> usize
     requires { (count ≤ 256) × (length (counted_capabilities count capabilities) ≤ length s.old) }
     ensures { (result ≡ length (counted_capabilities count capabilities)) × (s.new ≡ front (counted_capabilities count capabilities) s.old) }
@@ -48,6 +51,7 @@ fn put_counted(s: &mut [u8], count: usize, capabilities: [Capability; 256]) -> u
 }
 
 // "map of open sessions (8), each with .."; the bytes written.
+#[tactic(auto, using(buffers::proofs::Parts::length_tail, crate::proofs::Whole::mapped_room))]
 fn put_active(s: &mut [u8], sessions: [Session; 64]) -> usize
     requires { length (mapped 8 write_session (active_sessions sessions) sessions) ≤ length s.old }
     ensures { (result ≡ length (mapped 8 write_session (active_sessions sessions) sessions)) × (s.new ≡ front (mapped 8 write_session (active_sessions sessions) sessions) s.old) }
@@ -59,6 +63,7 @@ fn put_active(s: &mut [u8], sessions: [Session; 64]) -> usize
 }
 
 // Writes a register's image at the front of a buffer that has room for it; the bytes written.
+#[tactic(auto, using(buffers::proofs::Parts::length_tail, fields::proofs::Writing::writing_first, fields::proofs::Writing::writing_done, fields::proofs::Putting::turn, crate::proofs::Whole::users_bytes, crate::proofs::Whole::roles_bytes, crate::proofs::Whole::capabilities_bytes, crate::proofs::Whole::sessions_bytes, crate::proofs::Whole::sections_size_lem, crate::proofs::Whole::encode_sections, crate::proofs::Whole::sections_size))]
 pub fn put_image(s: &mut [u8], r: Register) -> usize
     requires { (r.count ≤ 256) × (length (encode r) ≤ length s.old) }
     ensures { (result ≡ length (encode r)) × (s.new ≡ front (encode r) s.old) }

@@ -6,6 +6,7 @@ ghost use Rattle.rules.specs.Columns.{masked, is_founded, in_domain, bumped};
 use model::{Origin, Role};
 
 // The mask of item k alone, or of none.
+#[tactic(auto, using(masks::proofs::Truth::cond_true, masks::proofs::MaskLaws::one_shl))]
 fn single(on: bool, k: usize) -> u64
     requires { k < 64 }
     ensures { result ≡ cond on (2 ^ k) 0 }
@@ -14,6 +15,7 @@ fn single(on: bool, k: usize) -> u64
 }
 
 // The roles that are founded.
+#[tactic(auto, using(crate::proofs::Laws::masked_more), unfolding(crate::specs::Columns::masked))]
 pub fn founded_roles(roles: [Role; 32]) -> u64
     ensures { result ≡ masked (is_founded roles) 32 }
 {
@@ -28,6 +30,7 @@ pub fn founded_roles(roles: [Role; 32]) -> u64
 }
 
 // The users of each domain.
+#[tactic(auto, using(crate::proofs::Laws::groups_more), unfolding(crate::specs::Columns::masked))]
 pub fn domain_users(domains: &[u8; 64]) -> [u64; 8]
     ensures { (d : ℕ) → d < 8 → get_or result d 0 ≡ masked (in_domain domains.now d) 64 }
 {

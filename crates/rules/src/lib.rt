@@ -17,6 +17,7 @@ use roles::{roles_keep, users_keep};
 use session::sessions_keep;
 
 // The rules, where the places from the bound on are known to be blank.
+#[tactic(auto, using(crate::proofs::Agreement::register_agrees, crate::proofs::Agreement::blank_rest))]
 fn keeps_below(r: Register, bound: usize) -> bool
     requires { (bound ≤ 256) × (r.count ≤ 256 → BlankFrom r bound) }
     ensures { result ≡ well_formed r }

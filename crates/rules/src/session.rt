@@ -10,6 +10,7 @@ use origins::numbers::{capability_held, role_held};
 use origins::standing::present_in;
 use origins::terms::allowance_of;
 
+#[tactic(auto, using(origins::proofs::Laws::held_placed, crate::proofs::Laws::all_more, crate::proofs::Agreement::session_agrees), unfolding(masks::specs::Tests::all_below))]
 pub fn sessions_keep(r: Register) -> bool
     ensures { result ≡ all_below 64 (λ n. session_keeps r.enrolled r.roles r.count r.capabilities n (session_at r.sessions n)) }
 {

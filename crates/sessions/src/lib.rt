@@ -21,6 +21,7 @@ use slots::{Decision, Slots, settle};
 
 // ---- close
 
+#[tactic(auto, using(slots::proofs::GuardLaws::test_unless, slots::proofs::GuardLaws::nothing_more))]
 fn close_guards(s: Session, session: u32) -> Guarded
     ensures { guarded result ≡ first_number (closing s session).guards }
 {
@@ -28,6 +29,7 @@ fn close_guards(s: Session, session: u32) -> Guarded
     first(!(session < 64), Refusal::Range, k)
 }
 
+#[tactic(auto, unfolding(crate::specs::Sessions::close_decision))]
 pub fn decide_close(v: Slots, session: u32) -> Decision
     ensures { ruled_of result ≡ close_decision v session }
 {
@@ -40,6 +42,7 @@ pub fn decide_close(v: Slots, session: u32) -> Decision
 
 // ---- check
 
+#[tactic(auto, using(slots::proofs::GuardLaws::test_unless, slots::proofs::GuardLaws::nothing_more, masks::proofs::Truth::from_left))]
 fn check_guards(s: Session, session: u32, permission: u32, at: Context) -> Guarded
     ensures { (permitted : Bool) → guarded result ≡ first_number (checking s permitted session permission at).guards }
 {
@@ -53,6 +56,7 @@ fn check_guards(s: Session, session: u32, permission: u32, at: Context) -> Guard
 }
 
 // What check answers yes by: of the session, and of the role or the capability that it is on.
+#[tactic(auto, using(masks::proofs::Truth::left_each), unfolding(crate::specs::Sessions::permits_in))]
 fn permitted(
     tick: u32,
     s: Session,
@@ -83,6 +87,7 @@ fn yes_number(yes: bool) -> u32
 
 // The answer to a check, by its session and the role and the capability that this may be on. Nothing changes, so that a caller who
 // holds the register needs nothing else. `decide_check` does not call it: a function with one caller, here the journal, is inlined.
+#[tactic(auto, unfolding(crate::specs::Sessions::check_answer))]
 pub fn answer_check(
     tick: u32,
     s: Session,
@@ -100,6 +105,7 @@ pub fn answer_check(
     answered(k, yes_number(yes))
 }
 
+#[tactic(auto, using(model::proofs::Settling::settle_same), unfolding(crate::specs::Sessions::check_answer))]
 pub fn decide_check(
     v: Slots,
     columns: &[u32; 64],
@@ -120,6 +126,7 @@ pub fn decide_check(
 // ---- open
 
 // The tests of the user, the role or capability and the context; all that is named is there.
+#[tactic(auto, using(slots::proofs::GuardLaws::test, slots::proofs::GuardLaws::test_unless, slots::proofs::GuardLaws::nothing_more))]
 fn admission_guards(v: Slots, o: Origin, session: u32, user: u32, at: Context) -> Guarded
     ensures { guarded result ≡ first_number (drop 3 (opening_on v o session user at).guards) }
 {
@@ -137,6 +144,7 @@ fn admission_guards(v: Slots, o: Origin, session: u32, user: u32, at: Context) -
     first(!entitled, Refusal::Forbidden, k)
 }
 
+#[tactic(auto, using(masks::proofs::Truth::each_at, masks::proofs::Truth::from_left, masks::proofs::Truth::left_each, origins::proofs::Laws::named_exact, slots::proofs::GuardLaws::test, slots::proofs::GuardLaws::test_unless, slots::proofs::GuardLaws::test_ranged))]
 fn open_guards(v: Slots, session: u32, user: u32, on: Named, at: Context) -> Guarded
     ensures { guarded result ≡ first_number (opening_on v (named_origin on) session user at).guards }
 {
@@ -170,6 +178,7 @@ fn new_session(user: u32, o: Origin, at: Context) -> Session
     }
 }
 
+#[tactic(auto, using(model::proofs::Settling::passed, origins::proofs::Laws::named_exact, crate::proofs::Commits::session_ranged), unfolding(crate::specs::Sessions::open_decision))]
 pub fn decide_open(v: Slots, session: u32, user: u32, on: Named, at: Context) -> Decision
     ensures { ruled_of result ≡ open_decision v session user on at }
 {

@@ -1,11 +1,7 @@
-use mathlib.Core.Path.{◌≡◌}
-use Prim.Native.Nat.{◌+◌, ◌≤◌}
-use native.Mathlib.Omega.{arith}
-use lib.ListN.{length}
-use borrow.Author.Rules.{rules}
-use Rattle.model.specs.Fields.{write_capability}
-use Rattle.records.proofs.Tables.{capability_codes_lem, capability_count, capability_counted, says_table}
+use Rattle.std.proofs.Common.{arith}
+use Rattle.records.proofs.Tables.{capability_counted}
 use Rattle.records.proofs.record.capability_length.Goals as goal
 
 pub overflow_add-result : goal.overflow_add-result
-overflow_add-result c = omega (arith, counted (search))
+overflow_add-result c =
+    omega (arith, (capability_counted c.args.c c.capability_codes-codes.ensures c.capability_fields-values.ensures c.field_map.ensures c.present_length.ensures).1)

@@ -1,0 +1,14 @@
+use mathlib.Core.Path.{◌≡◌, ap, ◌∙◌}
+use Prim.Native.Nat.{◌≤◌, ◌-◌}
+use native.Mathlib.Omega.{arith}
+use lib.Bits.{bit_or}
+use borrow.Author.Rules.{rules}
+use Rattle.rules.specs.Columns.{masked, is_founded}
+use Rattle.rules.proofs.Laws.{masked_more}
+use Rattle.rules.proofs.columns.founded_roles.Given as goal
+
+abbrev pub invariant-loop-i : goal.invariant-loop-i
+invariant-loop-i l = (l.i ≤ 32) × (l.mask ≡ masked (is_founded l.roles) l.i)
+
+abbrev pub decreases-loop-i : goal.decreases-loop-i
+decreases-loop-i l = 32 - l.i
