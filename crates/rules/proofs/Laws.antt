@@ -1,7 +1,7 @@
 -- Laws that know nothing of the register.
 use mathlib.Core.Path.{◌≡◌, refl, ap, ap₂, ◌∙◌, sym, subst}
 use mathlib.Core.Logic.{◌⊎◌, inl, inr}
-use mathlib.Core.Bool.{Bool, true, false, cond, not, ◌&&◌, ◌||◌, and-true, and_false, or-false}
+use mathlib.Core.Bool.{Bool, true, false, cond, not, ◌&&◌, ◌||◌, and-true, and-false, or-false}
 use mathlib.Core.List.{List, [], ◌∷◌, ◌++◌}
 use Prim.Native.Nat.{ℕ, zero, suc, ◌+◌, ◌%◌, ◌^◌, ◌<◌, ◌≤◌}
 use native.Mathlib.Decide.{dec_lt}
@@ -91,7 +91,7 @@ has-masked p (suc n) k = has_or (masked p n) _ k ∙ ap₂ ◌||◌ (has-masked 
   where
     last : (b : Bool) → p n ≡ b → has (cond b (2 ^ n) 0) k ≡ (eqb k n && b)
     last true e = has_single n k ∙ sym (and-true (eqb k n))
-    last false e = has_zero k ∙ sym (and_false (eqb k n))
+    last false e = has_zero k ∙ sym (and-false (eqb k n))
 
     cases : T (eqb k n) ⊎ T (not (eqb k n)) → ((ltb k n && p k) || (eqb k n && p n)) ≡ (ltb k (suc n) && p k)
     cases (inl e) =

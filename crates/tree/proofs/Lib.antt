@@ -1,6 +1,5 @@
 -- Laws of the lineage and of the calls over the whole tree.
 pub mod Ascent
-pub mod Recursion
 pub mod RevokeLaws
 pub mod SameLaws
 pub mod AmendLaws

@@ -49,6 +49,7 @@ fn amendment_of(change: Change, limit: u16) -> Amendment
     }
 }
 
+#[tactic(auto, using(slots::proofs::GuardLaws::test, slots::proofs::GuardLaws::test_unless, slots::proofs::GuardLaws::nothing_more))]
 fn amend_guards(
     enrolled: u64,
     count: u16,
@@ -70,6 +71,7 @@ fn amend_guards(
     first(!((user < 64) & (n < 256) & a.ranged), Refusal::Range, k)
 }
 
+#[tactic(auto, using(crate::proofs::OrderLaws::order_by, crate::proofs::AmendLaws::amend_refused, crate::proofs::AmendLaws::amend_passed))]
 pub fn amend_order(r: Register, user: u32, n: u32, change: Change) -> Order
     requires { T (well_formed r) }
     ensures { order_effect r result ≡ settled r (amend user n (change_of change)) }

@@ -22,6 +22,7 @@ pub struct Lineage {
     pub creators: [u16; 256],
 }
 
+#[tactic(auto, using(masks::proofs::Bounded::column_more))]
 pub fn lineage_of(r: Register) -> Lineage
     ensures { ((k : ℕ) → k < 256 → get_or result.origins k 0 ≡ origin_code (origin_at r.capabilities k)) × ((k : ℕ) → k < 256 → get_or result.creators k 0 ≡ (capability_at r.capabilities k).creator) }
 {

@@ -16,6 +16,7 @@ use origins::authority::{authority_in, columns_of};
 use slots::guards::{Guarded, answered, first};
 use sweeps::one_if;
 
+#[tactic(auto, using(slots::proofs::GuardLaws::test_unless, slots::proofs::GuardLaws::nothing_more))]
 fn same_guards(count: u16, m: u32, n: u32) -> Guarded
     ensures { guarded result ≡ first_number (same_guards count m n) }
 {
@@ -28,6 +29,7 @@ fn same_guards(count: u16, m: u32, n: u32) -> Guarded
 }
 
 // Life, limits and context masks are equal.
+#[tactic(auto, using(masks::proofs::Truth::left_each))]
 fn same_constraints(c: Capability, d: Capability) -> bool
     ensures { result ≡ each (zip_with eqb (constraints c) (constraints d)) }
 {
@@ -42,6 +44,7 @@ fn same_constraints(c: Capability, d: Capability) -> bool
 }
 
 // The answer; the register stays as it is.
+#[tactic(auto, using(crate::proofs::SameLaws::alike_value, crate::proofs::SameLaws::same_settled))]
 pub fn same_order(r: Register, m: u32, n: u32) -> Order
     requires { T (well_formed r) }
     ensures { order_effect r result ≡ settled r (same m n) }

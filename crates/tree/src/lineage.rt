@@ -10,6 +10,7 @@ fn wide(x: u16) -> usize
 }
 
 // The user created capability n or one on its lineage.
+#[tactic(auto, using(crate::proofs::Ascent::has_here, crate::proofs::Ascent::has_up, crate::proofs::Ascent::has_last))]
 pub fn created(origins: &[u16; 256], creators: &[u16; 256], n: usize, user: usize) -> bool
     requires { n < 256 }
     ensures { (f : ℕ) → n < f → result ≡ lineage_has (λ k. get_or origins.now k 0) (λ k. eqb (get_or creators.now k 0) user) f n }
@@ -27,6 +28,7 @@ pub fn created(origins: &[u16; 256], creators: &[u16; 256], n: usize, user: usiz
 }
 
 // The role where the lineage of capability n ends.
+#[tactic(auto, using(crate::proofs::Ascent::end_up, crate::proofs::Ascent::end_last))]
 pub fn root_of(origins: &[u16; 256], n: usize) -> u32
     requires { n < 256 }
     ensures upper_bound { result < 32 }

@@ -15,6 +15,7 @@ use slots::guards::{Guarded, first};
 use sweeps::Sweep;
 
 // `entitled` says whether the user created the capability or one on its lineage, `revoked` whether it is revoked already.
+#[tactic(auto, using(slots::proofs::GuardLaws::test, slots::proofs::GuardLaws::test_unless, slots::proofs::GuardLaws::nothing_more))]
 fn revoke_guards(
     enrolled: u64,
     count: u16,
@@ -32,6 +33,7 @@ fn revoke_guards(
     first(!((user < 64) & (n < 256)), Refusal::Range, k)
 }
 
+#[tactic(auto, using(crate::proofs::OrderLaws::order_by, crate::proofs::RevokeLaws::revoke_refused, crate::proofs::RevokeLaws::revoke_passed))]
 pub fn revoke_order(r: Register, user: u32, n: u32) -> Order
     requires { T (well_formed r) }
     ensures { order_effect r result ≡ settled r (revoke user n) }

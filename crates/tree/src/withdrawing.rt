@@ -12,6 +12,7 @@ use model::{Refusal, Register, Role};
 use slots::guards::{Guarded, first};
 use sweeps::Sweep;
 
+#[tactic(auto, using(slots::proofs::GuardLaws::test_unless, slots::proofs::GuardLaws::nothing_more))]
 fn withdraw_guards(x: Role, role: u32, permission: u32) -> Guarded
     ensures { guarded result ≡ first_number (withdrawing x role permission).guards }
 {
@@ -21,6 +22,7 @@ fn withdraw_guards(x: Role, role: u32, permission: u32) -> Guarded
     first(!((role < 32) & (permission < 32)), Refusal::Range, k)
 }
 
+#[tactic(auto, using(crate::proofs::OrderLaws::order_by, crate::proofs::WithdrawLaws::withdraw_refused, crate::proofs::WithdrawLaws::withdraw_passed))]
 pub fn withdraw_order(r: Register, role: u32, permission: u32) -> Order
     requires { T (well_formed r) }
     ensures { order_effect r result ≡ settled r (withdraw role permission) }

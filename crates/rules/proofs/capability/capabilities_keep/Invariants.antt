@@ -17,18 +17,17 @@ use Rattle.rules.proofs.Agreement.{place_agrees}
 use Rattle.masks.proofs.Truth.{the}
 use Rattle.rules.proofs.capability.capabilities_keep.Given as goal
 
-abbrev pub invariant-loop : goal.invariant-loop
-invariant-loop l = (l.n ≤ l.created) × (l.table ≡ tally l.r.capabilities l.n)
+abbrev pub invariant-loop-n : goal.invariant-loop-n
+invariant-loop-n l = (l.n ≤ l.created) × (l.table ≡ tally l.r.capabilities l.n)
 
-abbrev pub decreases-loop : goal.decreases-loop
-decreases-loop l = l.created - l.n
+abbrev pub decreases-loop-n : goal.decreases-loop-n
+decreases-loop-n l = l.created - l.n
 
-abbrev pub invariant-loop2 : goal.invariant-loop2
-invariant-loop2 l = (l.i ≤ l.bound)
+abbrev pub invariant-loop-i : goal.invariant-loop-i
+invariant-loop-i l = (l.i ≤ l.bound)
     × (length l.table ≡ 256)
     × (l.r.count ≤ 256 → l.table ≡ tally l.r.capabilities l.r.count)
-    × (l.r.count ≤ 256 → true ≡ all_below l.i (λ l.n. place_keeps l.r.enrolled l.r.roles l.r.count l.r.capabilities l.n (capability_at l.r.capabilities l.n)))
+    × (l.r.count ≤ 256 → true ≡ all_below l.i (λ n. place_keeps l.r.enrolled l.r.roles l.r.count l.r.capabilities n (capability_at l.r.capabilities n)))
 
-abbrev pub decreases-loop2 : goal.decreases-loop2
-decreases-loop2 l = l.bound - l.i
-
+abbrev pub decreases-loop-i : goal.decreases-loop-i
+decreases-loop-i l = l.bound - l.i

@@ -13,7 +13,7 @@ use Rattle.rules.proofs.session.sessions_keep.Goals as goal
 
 pub loop-i-preserved : goal.loop-i-preserved
 loop-i-preserved c =
-    let r = c.args.t1 in (
+    let r = c.args.r in (
       search rules,
       all_more c.loop-i.i _ c.loop-i.invariant.1
           (ap (λ t. c.loop-i.ok && t)
@@ -23,6 +23,6 @@ loop-i-preserved c =
 
 pub returns : goal.returns
 returns c =
-    let r = c.args.t1 in
+    let r = c.args.r in
     c.loop-i.invariant.1
     ∙ ap (λ n. all_below n (λ n. session_keeps r.enrolled r.roles r.count r.capabilities n (session_at r.sessions n))) {x = c.loop-i.i} {y = 64} (omega arith)
