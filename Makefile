@@ -20,23 +20,29 @@ LIB = target/staticlib/libfellunqa.a
 JOURNAL = target/bin/journal
 CLIENT = target/client
 
+# rt builds in the folder of a crate; what is built is put into target/ under the name that it is installed and linked by
+BUILD_LIB = cd crates/fellunqa_c && rt lib && mkdir -p ../../target/staticlib && \
+	cp out/libfellunqa_c.a ../../target/staticlib/libfellunqa.a
+# rt runs what it has built, here without lines
+BUILD_JOURNAL = cd crates/journal && rt run < /dev/null && mkdir -p ../../target/bin && cp out/journal ../../target/bin/journal
+
 CC = cc
 CFLAGS = -O2 -std=c11 -Wall -Wextra -pedantic
 # further libraries to link; the library itself needs none
 LIBS =
 
 lib:
-	rt staticlib fellunqa
+	$(BUILD_LIB)
 
 journal:
-	rt check journal
+	$(BUILD_JOURNAL)
 
 # Made only if they are not there; after a change of the sources, 'make lib' and 'make journal' make them anew.
 $(LIB):
-	rt staticlib fellunqa
+	$(BUILD_LIB)
 
 $(JOURNAL):
-	rt check journal
+	$(BUILD_JOURNAL)
 
 install: $(LIB) $(JOURNAL)
 	umask 022; mkdir -p '$(ROOT)/lib/pkgconfig' '$(ROOT)/include' '$(ROOT)/bin' '$(ROOT)/share/man/man1'

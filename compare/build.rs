@@ -1,5 +1,5 @@
 //! Says where the static library of the proved entry point lies: in the folder
-//! FELLUNQA_LIB_DIR, seen from this package, or where `rt staticlib` writes it.
+//! FELLUNQA_LIB_DIR, seen from this package, or where `make lib` puts it.
 //! Only the program `entry` links it.
 
 use std::env;

@@ -1,6 +1,6 @@
 #!/usr/bin/env bash
 # Random lists of calls, images and lines through the proved C entry point and through the independent implementation.
-# `rt staticlib` writes the library where it is missing or older than the sources; FELLUNQA_LIB_DIR names the folder of another
+# `make lib` builds the library where it is missing or older than the sources; FELLUNQA_LIB_DIR names the folder of another
 # one to be tested. The last line is the sum, 'N passed, M failed'.
 set -u
 cd "$(dirname "$0")/.." || exit 1
@@ -22,7 +22,7 @@ give_up() { # WHY
 library=target/staticlib/libfellunqa.a
 if [ -z "${FELLUNQA_LIB_DIR:-}" ]; then
   if [ ! -f "$library" ] || [ -n "$(find crates/*/src crates.txt -newer "$library" -print -quit)" ]; then
-    rt staticlib fellunqa || give_up 'the static library is not built'
+    make -s lib || give_up 'the static library is not built'
   fi
 fi
 cargo build --release --offline --quiet --manifest-path compare/Cargo.toml --bin entry || give_up 'the comparison is not built'

@@ -1,7 +1,7 @@
 #!/usr/bin/env bash
 # Plays every examples/NAME.txt that has a NAME.answers beside it through the proved journal program and through the
 # independent implementation, and compares the output with the stored answers byte for byte; then holds the tables of
-# examples/BAKERY.md to the journals that they show. `rt check journal` or `rt ci` builds the proved program; JOURNAL names
+# examples/BAKERY.md to the journals that they show. `make journal` or the gate puts the proved program there; JOURNAL names
 # another one. With --write, writes the answers anew. The last line is 'N passed, M failed'.
 set -uo pipefail
 cd "$(dirname "$0")/.." || exit 1

@@ -1,6 +1,6 @@
 #!/usr/bin/env bash
 # Faults of the journal program's input and output: each is told in one line on standard error that says which side and why, or the
-# program goes on where it can. `rt check journal` or `rt ci` builds the program; JOURNAL names another one. A fault that this
+# program goes on where it can. `make journal` or the gate puts the program there; JOURNAL names another one. A fault that this
 # machine cannot make is named as not run. The last line is 'N passed, M failed'.
 set -u
 cd "$(dirname "$0")/.." || exit 1

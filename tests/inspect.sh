@@ -6,7 +6,7 @@
 # Variables: LIB, the library (made if it is not there and not named); LIBS, further libraries to link; CC.
 set -u -o pipefail
 cd "$(dirname "$0")/.." || exit 1
-[ -n "${LIB:-}" ] || [ -f target/staticlib/libfellunqa.a ] || rt staticlib fellunqa
+[ -n "${LIB:-}" ] || [ -f target/staticlib/libfellunqa.a ] || make -s lib
 LIB=${LIB:-target/staticlib/libfellunqa.a}
 if [ ! -f "$LIB" ]; then
   echo "no library $LIB"

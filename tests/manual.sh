@@ -3,8 +3,8 @@
 # are one journal, and so are those of docs/SPECIFICATION.md and the lines between .EX and .EE of docs/fellunqa-journal.1: each
 # line is followed by '-> ' and its answer. All are played through the proved journal program and through the independent
 # implementation; each answer shown counts one. The blocks ```entry of docs/LIBRARY.md are played through the independent
-# implementation's entry point. `rt check journal` or `rt ci` builds the proved program; JOURNAL names another one. The last line
-# is 'N passed, M failed'.
+# implementation's entry point. `make journal` or the gate puts the proved program there; JOURNAL names another one. The last
+# line is 'N passed, M failed'.
 set -uo pipefail
 cd "$(dirname "$0")/.." || exit 1
 journal=${JOURNAL:-target/bin/journal}
