@@ -16,30 +16,31 @@ rows() { # CRATE MODULE FILE
     { sub(/\/\/.*/, ""); text = text " " $0 }
     END {
       gsub(/[ \t]+/, " ", text)
-      while (match(text, /pub (extern "C" )?fn [a-z_0-9]+/)) {
+      while (match(text, /pub (const )?(unsafe )?(extern "C" )?fn [a-z_0-9]+/)) {
         name = substr(text, RSTART, RLENGTH)
         sub(/.* /, "", name)
         text = substr(text, RSTART + RLENGTH)
         requires = ""
         ensures = "-"
-        while ((at = index(text, "{")) > 0 && match(substr(text, 1, at - 1), /(requires|ensures)( [a-z_0-9]+)? $/)) {
+        while ((at = index(text, "{")) > 0 && match(substr(text, 1, at - 1), /(requires|ensures)\*?( [a-z_0-9]+)? $/)) {
           kind = substr(text, RSTART, 8)
           text = substr(text, at + 1)
           for (depth = end = 1; depth > 0 && end <= length(text); end++) {
             c = substr(text, end, 1)
             depth += (c == "{") - (c == "}")
           }
-          if (kind == "requires") requires = requires (requires == "" ? "" : " ; ") substr(text, 1, end - 2)
+          clause = substr(text, 1, end - 2)
+          gsub(/^ +| +$/, "", clause)
+          if (kind == "requires") requires = requires (requires == "" ? "" : " ; ") clause
           else ensures = "ensures"
           text = substr(text, end)
         }
-        gsub(/ *(⌜|⌝) */, "", requires)
         print crate "\t" module "\t" name "\t" (requires == "" ? "-" : requires) "\t" ensures
       }
     }' "$3"
 }
 
-for crate in $(sed -n 's/^\([a-z_0-9]*\):.*/\1/p' crates.txt); do
+for crate in $(sed -nE 's/^([a-z_0-9]+)( [^:]*)?:.*/\1/p' crates.txt); do
   for file in crates/"$crate"/src/*.rt; do
     module=$(basename "$file" .rt)
     rows "$crate" "$(sed 's/^\(lib\|main\)$/-/' <<<"$module")" "$file"
@@ -48,7 +49,7 @@ done > "$now"
 
 # the parts of the promise: a statement that stands on the part's own line is named
 for file in crates/promise/specs/{Promise,Contracts}.antt; do
-  sed -nE "s/^ +pub ([a-z-]+) : ([^ ({]*).*/promise\t$(basename "$file" .antt)\t\1\t\2\tpart/p" "$file" | sed 's/\t\t/\t-\t/'
+  sed -nE "s/^ +pub ([a-z_]+) : ([^ ({]*).*/promise\t$(basename "$file" .antt)\t\1\t\2\tpart/p" "$file" | sed 's/\t\t/\t-\t/'
 done >> "$now"
 if [ "${1:-}" = --write ]; then
   cp "$now" "$stored"
