@@ -4,10 +4,10 @@
 # ```c block with a file's name is that file; one without a name is compiled after the header. README comes first; what it installs is
 # there for the others. A line in `left_out` is not run, one in `in_place` in the repository itself. Then the links of the texts, the
 # version, the installation and the journal program's arguments are tested.
-# `rt check journal` or `rt ci` builds the program, and the library is made if it is not there. The last line is 'N passed, M failed'.
+# `make journal` or the gate puts the program there, and the library is made if it is not there. The last line is 'N passed, M failed'.
 set -u
 cd "$(dirname "$0")/.." || exit 1
-[ -f target/staticlib/libfellunqa.a ] || rt staticlib fellunqa
+[ -f target/staticlib/libfellunqa.a ] || make -s lib
 page=docs/fellunqa-journal.1
 texts=(CONTRIBUTING.md CHANGELOG.md docs/*.md examples/*.md "$page")
 journal=target/bin/journal
@@ -24,8 +24,12 @@ declare -A left_out=(
   ['rt must-fail giving']='proofs of minutes; the gate tries every edit'
   ['bash bench/run']='measures, and proves a library first'
 )
-# lines that are run in the repository itself: what the gate has proved there is not proved again
-in_place=' rt check journal | rt dev giving | rt check giving '
+# lines that are run in the repository itself: what was proved there is not proved again
+declare -A in_place=(
+  ['make journal']=yes
+  ['(cd crates/giving && rt check)']=yes
+  ['rt ci giving']=yes
+)
 declare -A met=()
 
 count() { # STATUS MESSAGE
@@ -82,8 +86,10 @@ keep() { # FILE TITLE
     if [ -n "$line" ] && [ -n "${left_out[$line]:-}" ]; then
       met[$line]=yes
       echo "not run, $2: $line (${left_out[$line]})"
-    elif [ -n "$line" ] && [[ $in_place == *" $line "* ]]; then
-      $line > "$work/out" 2>&1
+    elif [ -n "$line" ] && [ -n "${in_place[$line]:-}" ]; then
+      met[$line]=yes
+      # `rt ci` of one crate is no gate, and so refuses to run where CI is set, as it may be for the gate around this
+      env -u CI bash -c "$line" < /dev/null > "$work/out" 2>&1
       count $? "$2: $line ends well ($(tail -n 5 "$work/out"))"
     else
       printf '%s\n' "$line" >> "$work/script"
@@ -126,7 +132,7 @@ block() { # TEXT STEM
 renew_copy() {
   rm -rf "$copy"
   mkdir -p "$copy/target/staticlib" "$copy/target/bin"
-  tar --exclude=./.git --exclude=target -cf - . | tar -xf - -C "$copy"
+  tar --exclude=./.git --exclude=target --exclude='./crates/*/out' -cf - . | tar -xf - -C "$copy"
   cp target/staticlib/libfellunqa.a "$copy/target/staticlib/" && cp "$journal" "$copy/target/bin/"
 }
 
@@ -286,9 +292,9 @@ for text in README.md "${texts[@]}"; do
   links "$text"
   count $? "$text: links lead to files"
 done
-for line in "${!left_out[@]}"; do
+for line in "${!left_out[@]}" "${!in_place[@]}"; do
   [ -n "${met[$line]:-}" ]
-  count $? "a text prints what is left out: $line"
+  count $? "a text prints what is left out or run in place: $line"
 done
 
 version=$(sed -n 's/^#define FELLUNQA_VERSION "\(.*\)"$/\1/p' include/fellunqa.h)
