@@ -63,10 +63,12 @@ verdict $? "each number of $specification is given once"
 ! grep -n '^- ' "$specification" | grep -vE '^[0-9]+:- \*\*§[0-9]+\.[0-9]+\.[0-9]+\*\* '
 verdict $? "each paragraph of $specification begins with its number"
 
+# but for what is built, and for a change that is not part of the repository yet
+elsewhere=(--exclude-dir=target --exclude-dir=out --exclude-dir=.git --exclude=request-e.patch)
 while read -r number; do
   grep -qxF "$number" <<< "$known"
-  verdict $? "§$number is a paragraph: $(grep -rIlF "§$number" --exclude-dir=target --exclude-dir=.git . | tr '\n' ' ')"
-done < <(grep -rIhoE '§[0-9]+(\.[0-9]+)*' --exclude-dir=target --exclude-dir=.git . | sed 's/^§//' | sort -u)
+  verdict $? "§$number is a paragraph: $(grep -rIlF "§$number" "${elsewhere[@]}" . | tr '\n' ' ')"
+done < <(grep -rIhoE '§[0-9]+(\.[0-9]+)*' "${elsewhere[@]}" . | sed 's/^§//' | sort -u)
 
 # ---- paragraphs and rows
 
