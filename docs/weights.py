@@ -1,16 +1,21 @@
 #!/usr/bin/env python3
 """The table of weights in docs/PROOFS.md: lines of each crate, and the time of its check.
 
-  python3 docs/weights.py LOG     LOG: what `rt ci` or `.ci/run` printed
+  RT_JOBS=1 rt ci --anew | python3 docs/weights.py
 
-Lines without blanks and comments. Code leaves out contracts (ghost use, requires, ensures).
+With one job the proofs run one after the other, so that the time of a crate is that from the line before, at which another proof
+ended, to the line that says it is proved; the edits come after all proofs. Lines without blanks and comments. Code leaves out contracts
+(ghost use, requires, ensures). 'By function' are the files in the folders of functions.
 """
 import re
 import sys
+import time
 from pathlib import Path
 
 ROOT = Path(__file__).resolve().parent.parent / "crates"
-CONTRACT = re.compile(r"\s*(ghost use|requires|ensures)\b")
+CONTRACT = re.compile(r"\s*(ghost use|requires|ensures|#!?\[tactic)\b")
+FUNCTION = re.compile(r'\s*(pub )?(const )?(unsafe )?(extern "C" )?fn \w')
+ENDED = re.compile(r"rt: (\w+)(: its tests)? proved$")
 
 
 def lines(paths, comment):
@@ -20,22 +25,33 @@ def lines(paths, comment):
 
 def weigh(crate):
     code = [line for line in lines(crate.glob("src/**/*.rt"), "//") if not CONTRACT.match(line)]
-    by_function = set(crate.glob("proofs/**/Proof.antt"))
-    laws = set(crate.glob("proofs/**/*.antt")) - by_function
-    return [len(code), *(len(lines(p, "--")) for p in (crate.glob("specs/**/*.antt"), laws, by_function))]
+    functions = sum(1 for line in code if FUNCTION.match(line))
+    laws = set(crate.glob("proofs/*.antt"))
+    by_function = set(crate.glob("proofs/**/*.antt")) - laws
+    return [functions, len(code), *(len(lines(p, "--")) for p in (crate.glob("specs/**/*.antt"), laws, by_function))]
+
+
+def followed(log):
+    """The time of each crate, from a run that goes on."""
+    seconds, last = {}, time.monotonic()
+    for line in log:
+        print(line, end="", file=sys.stderr)
+        ended = ENDED.match(line)
+        if ended:
+            now = time.monotonic()
+            if not ended[2]:
+                seconds[ended[1]] = round(now - last)
+            last = now
+    return seconds
 
 
 def main():
-    log = Path(sys.argv[1]).read_text()
-    seconds = dict(re.findall(r"^rt: (\w+) proved \((\d+) s\)$", log, re.M))
-    functions = {name: len(re.findall(rf"^fn {name}::\S*: proved", log, re.M)) for name in seconds}
+    seconds = followed(sys.stdin)
     print("| crate | functions | code | specs | laws | by function | proof to code | check, s | edits |")
     print("|---|---|---|---|---|---|---|---|---|")
     total = [0] * 6
     for name in seconds:
-        code, specs, laws, by_function = weigh(ROOT / name)
-        edits = len(list((ROOT / name).glob("must-fail/*.edit")))
-        row = [functions[name], code, specs, laws, by_function, edits]
+        row = [*weigh(ROOT / name), len(list((ROOT / name).glob("must-fail/*.edit")))]
         total = [a + b for a, b in zip(total, row)]
         print(format_row(f"`{name}`", row, seconds[name]))
     print(format_row("all", total, ""))
