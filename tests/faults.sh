@@ -124,16 +124,19 @@ injected() { # EXPRESSION
 nth() { # CALL DESCRIPTOR
   strace -o "$work/trace" -e "trace=$1" "$journal" < "$lines" > /dev/null 2>&1 && grep -n "^$1($2[,)]" "$work/trace" | head -n 1 | cut -d: -f1
 }
-read=$(nth read 0)
-close=$(nth close 1)
-if [ -n "$read" ] && [ -n "$close" ]; then
+if strace -o /dev/null true 2> /dev/null; then
+  read=$(nth read 0)
+  write=$(nth write 1)
+  close=$(nth close 1)
+  [ -n "$read" ] && [ -n "$write" ] && [ -n "$close" ]
+  count $? 'the program reads, writes and closes its output by these calls, so that each can be made to fail'
   injected "read:error=EINTR:when=$read"; status=$?
   told 'interrupted read' ''
   answered 'interrupted read' "$answers"
   injected "read:error=EIO:when=$((read + 1))"; status=$?
   told 'input that fails after its lines' 'journal: input: Input/output error'
   answered 'input that fails after its lines' /dev/null
-  injected 'write:error=EINTR:when=1'; status=$?
+  injected "write:error=EINTR:when=$write"; status=$?
   told 'interrupted write' ''
   answered 'interrupted write' "$answers"
   injected "close:error=EDQUOT:when=$close"; status=$?
