@@ -16,6 +16,7 @@ use tree::orders::Order;
 
 // A call that changes only elements that it names: they are read, decided and put back. Where the parent stands at the capability's
 // place, the capability stays.
+#[tactic(auto, using(dispatch::proofs::Commits::commit), unfolding(slots::specs::Slots::put))]
 fn apply_local(r: Register, q: LocalRequest) -> Reply
     requires { T (well_formed r) }
     ensures { effect_of result ≡ settled r (local_call q) }
@@ -82,6 +83,7 @@ pub fn apply_trusted(r: Register, q: Request) -> Reply
 }
 
 // "The first that applies is answered: 15 (the register handed in breaks a shelf rule), then .."
+#[tactic(auto, using(model::proofs::Settling::broken))]
 pub fn apply(r: Register, q: Request) -> Reply
     ensures { effect_of result ≡ step r (call_of q) }
 {
