@@ -79,8 +79,7 @@ fn perform(area: &mut [u8], r: Register, q: Request) -> i64
 
 // One call from C, on the register whose image is given. It returns the value, with the new image's length in two bytes and
 // the new image at the front of the area; or a refusal as a negative number, with the area as it was.
-#[unsafe(no_mangle)]
-pub extern "C" fn fellunqa_apply(image: &[u8], line: &[u8], area: &mut [u8]) -> i64
+pub fn fellunqa_apply(image: &[u8], line: &[u8], area: &mut [u8]) -> i64
     ensures { (result ≡ returned (entry image.now line.now (length area.old))) × (area.new ≡ buffer_after (entry image.now line.now (length area.old)) area.old) }
 {
     let read = read_checked(image);

@@ -2,3 +2,4 @@
 pub mod Transcripts
 pub mod Laws
 pub mod Room
+pub mod Turns

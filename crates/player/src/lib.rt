@@ -25,6 +25,7 @@ mod step;
 
 // The lines of an input, from any register; the output has room for five bytes a byte. The register is one local, changed in
 // place: a function that took it and read an element would copy it for each line, so the elements are read and put back here.
+#[tactic(auto, using(buffers::proofs::Parts::tail, buffers::proofs::Parts::length_tail, buffers::proofs::Parts::placed_nil, sessions::proofs::Commits::check_done, dispatch::proofs::Columns::columns_kept, dispatch::proofs::Commits::placed, dispatch::proofs::Commits::commit, crate::proofs::Transcripts::transcript_last, crate::proofs::Transcripts::transcript_done, crate::proofs::Laws::Playing, crate::proofs::Laws::left_fits, crate::proofs::Laws::to_within, crate::proofs::Laws::turn, crate::proofs::Laws::no_wrap, crate::proofs::Laws::line_done, crate::proofs::Laws::formed_after, crate::proofs::Laws::answer_last, crate::proofs::Laws::answer_size, crate::proofs::Laws::unended_some, crate::proofs::Room::transcript_most), unfolding(slots::specs::Slots::put))]
 fn play(start: Register, input: &[u8], out: &mut [u8]) -> usize
     requires { 5 * length input.now ≤ length out.old }
     ensures { (result ≡ length (transcript start (split 10 input.now))) × (out.new ≡ front (transcript start (split 10 input.now)) out.old) × (result ≤ length out.old) }
@@ -116,6 +117,7 @@ fn play(start: Register, input: &[u8], out: &mut [u8]) -> usize
 
 // A whole journal, from any register: above 32,768 bytes just `no 1`. Where the output has no room for the longest answer to
 // that much input, 163,840 bytes, nothing is written.
+#[tactic(auto, using(answers::proofs::AnswerLaws::printed_room, answers::proofs::AnswerLaws::printed_most, crate::proofs::Laws::journal_long, crate::proofs::Laws::journal_short, crate::proofs::Laws::no_room, crate::proofs::Laws::with_room))]
 pub fn journal(start: Register, input: &[u8], out: &mut [u8]) -> usize
     ensures { (result ≡ journal_length start input.now out.old) × (out.new ≡ journal_buffer start input.now out.old) × (result ≤ length out.old) }
 {

@@ -15,6 +15,7 @@ pub enum Step {
 }
 
 // `formed` is what the test of the rules says of the register.
+#[tactic(auto, using(crate::proofs::Laws::line_none, crate::proofs::Laws::line_broken, crate::proofs::Laws::line_says))]
 pub fn step_of(formed: bool, line: &[u8]) -> Step
     ensures { Fits formed line.now result }
 {
