@@ -47,6 +47,7 @@ fn no_answers() -> [Told; 64]
 }
 
 // n refusals with 15: a register that breaks a rule refuses every request, and stays as it is.
+#[tactic(auto, using(crate::proofs::Laws::filled, crate::proofs::Laws::filled_none, crate::proofs::Laws::refused_more, crate::proofs::Laws::refused_all))]
 fn refusals(n: usize) -> [Told; 64]
     requires { n ≤ 64 }
     ensures { outcomes_of result ≡ replicate n (refused 15) ++ replicate (64 - n) (value 0) }
@@ -64,6 +65,7 @@ fn refusals(n: usize) -> [Told; 64]
 }
 
 // The first n requests, on a register that is known to be well_formed_lem; each call goes by value.
+#[tactic(auto, using(crate::proofs::Laws::Playing, crate::proofs::Laws::playing_start, crate::proofs::Laws::playing_more, crate::proofs::Laws::playing_done))]
 fn apply_formed(start: Register, items: [Item; 64], n: usize) -> Played
     requires t { T (well_formed start) }
     requires n_bound { n ≤ 64 }
@@ -89,6 +91,7 @@ fn apply_formed(start: Register, items: [Item; 64], n: usize) -> Played
 }
 
 // The first `count` requests of the items, all 64 where `count` is more. The rules are tested once: each call keeps them.
+#[tactic(auto, using(crate::proofs::Laws::all_broken, crate::proofs::Laws::items_counted))]
 pub fn apply_all(start: Register, items: [Item; 64], count: usize) -> Played
     ensures { (result.register ≡ run start (calls_of count items)) × (outcomes_of result.answers ≡ padded_answers start count items) }
 {
