@@ -16,6 +16,7 @@ use requests::parse;
 use text::parts::count_before;
 
 // "one line with its line feed (any other bytes get 1)"
+#[tactic(auto, using(crate::proofs::Laws::line_followed, crate::proofs::Laws::line_whole))]
 fn sole_line(line: &[u8]) -> Parsed
     ensures { parsed_call result ≡ sole_line (split 10 line.now) }
 {
@@ -30,6 +31,7 @@ fn sole_line(line: &[u8]) -> Parsed
 }
 
 // "or the refusal as a negative number"
+#[tactic(auto, using(crate::proofs::Laws::minus_fits, crate::proofs::Laws::minus_is))]
 fn refused(why: Refusal) -> i64
     ensures { result ≡ neg_ℤ (pos (refusal_number why)) }
 {
@@ -46,6 +48,7 @@ fn put_length(s: &mut [u8], n: u32)
 }
 
 // The value v with the image of r, its length before it; 16 where the buffer has no room, and then nothing is written.
+#[tactic(auto, using(buffers::proofs::Parts::length_tail, buffers::proofs::Parts::tail_back, crate::proofs::Laws::head_last, crate::proofs::Laws::save_said, crate::proofs::Laws::save_unsaid, crate::proofs::Laws::fitted_room, crate::proofs::Laws::fitted_none, crate::proofs::Laws::leaves_by))]
 fn deliver(buffer: &mut [u8], r: Register, v: u32) -> i64
     requires { T (well_formed r) }
     ensures { (result ≡ returned (fitted (length buffer.old) v (encode r))) × (buffer.new ≡ buffer_after (fitted (length buffer.old) v (encode r)) buffer.old) }
@@ -62,6 +65,7 @@ fn deliver(buffer: &mut [u8], r: Register, v: u32) -> i64
 }
 
 // The call of a request, by value.
+#[tactic(auto, using(crate::proofs::Laws::leaves_by, crate::proofs::Laws::after_formed, crate::proofs::Laws::by_value, crate::proofs::Laws::by_refusal))]
 fn perform(area: &mut [u8], r: Register, q: Request) -> i64
     requires { T (well_formed r) }
     ensures { (result ≡ returned (performed (length area.old) r (call_of q))) × (area.new ≡ buffer_after (performed (length area.old) r (call_of q)) area.old) }
@@ -79,6 +83,7 @@ fn perform(area: &mut [u8], r: Register, q: Request) -> i64
 
 // One call from C, on the register whose image is given. It returns the value, with the new image's length in two bytes and
 // the new image at the front of the area; or a refusal as a negative number, with the area as it was.
+#[tactic(auto, using(crate::proofs::Laws::leaves_by, crate::proofs::Laws::no_image, crate::proofs::Laws::no_line, crate::proofs::Laws::loaded_formed, crate::proofs::Laws::by_call))]
 pub fn fellunqa_apply(image: &[u8], line: &[u8], area: &mut [u8]) -> i64
     ensures { (result ≡ returned (entry image.now line.now (length area.old))) × (area.new ≡ buffer_after (entry image.now line.now (length area.old)) area.old) }
 {
