@@ -16,7 +16,7 @@ use Rattle.model.proofs.ImageCases.{image_cases, entry_cases}
 use Rattle.image.proofs.Accepted.{image_laws}
 use Rattle.promise.specs.Promise.{Promise}
 use Rattle.promise.proofs.Chain.{entry_runs}
-use Rattle.promise.proofs.Contracts.{contracts}
+use Rattle.promise.proofs.PublicContracts.{contracts}
 
 pub promise : Promise
 promise =

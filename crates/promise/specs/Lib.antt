@@ -1,3 +1,3 @@
 -- The whole promise on one page: `Promise.antt`.
-pub mod Contracts
+pub mod PublicContracts
 pub mod Promise

@@ -19,7 +19,7 @@ use Rattle.model.specs.ContextCases.{ContextCases}
 use Rattle.model.specs.JournalCases.{JournalCases}
 use Rattle.model.specs.ImageCases.{ImageCases, EntryCases}
 use Rattle.image.specs.Laws.{ImageLaws}
-use Rattle.promise.specs.Contracts.{Contracts}
+use Rattle.promise.specs.PublicContracts.{Contracts}
 
 pub record Promise : Type 2 where
   -- after every list of calls, saves and loads: containment, lineages that end, exact checks, exact revokes (`model`, Theorem.antt)

@@ -20,12 +20,19 @@ use Rattle.model.specs.Lists.{run}
 use Rattle.batch.specs.Batch.{calls_of, outcomes_of, padded_answers}
 use Rattle.player.specs.Play.{journal_length, journal_buffer}
 use Rattle.terminal.specs.Played.{Plays}
+use Rattle.calls.specs.contracts as calls-contracts
 use Rattle.calls.proofs as calls-proofs
+use Rattle.apply.specs.contracts as apply-contracts
 use Rattle.apply.proofs as apply-proofs
+use Rattle.batch.specs.contracts as batch-contracts
 use Rattle.batch.proofs as batch-proofs
+use Rattle.image.specs.contracts as image-contracts
 use Rattle.image.proofs as image-proofs
+use Rattle.player.specs.contracts as player-contracts
 use Rattle.player.proofs as player-proofs
+use Rattle.fellunqa.specs.contracts as fellunqa-contracts
 use Rattle.fellunqa.proofs as fellunqa-proofs
+use Rattle.terminal.specs.contracts as terminal-contracts
 use Rattle.terminal.proofs as terminal-proofs
 
 -- in any world that the logic's theorems are about
@@ -38,77 +45,77 @@ module _ {M : Type 1} {𝓤 : Ura M} (𝓛 : Logic 𝓤) (mem : Memory → SProp
   pub record Contracts : Type 2 where
     pub enrol : calls-proofs.enrol.Statement.statement M
     pub enrol_says : (κs : _) (r : _) (user : _) (domain : _)
-        → Says (calls-proofs.enrol.clauses 𝓛 mem runs κs (r, (user, (domain, tt)))) (λ q end. effect_of q ≡ step r (call.enrol user domain))
+        → Says (calls-contracts.enrol.clauses 𝓛 mem runs κs (r, (user, (domain, tt)))) (λ q end. effect_of q ≡ step r (call.enrol user domain))
     pub found : calls-proofs.found.Statement.statement M
     pub found_says : (κs : _) (r : _) (role : _) (domain : _) (hours : _) (places : _) (devices : _)
-        → Says (calls-proofs.found.clauses 𝓛 mem runs κs (r, (role, (domain, (hours, (places, (devices, tt))))))) (λ q end. effect_of q ≡ step r (call.found role domain hours places devices))
+        → Says (calls-contracts.found.clauses 𝓛 mem runs κs (r, (role, (domain, (hours, (places, (devices, tt))))))) (λ q end. effect_of q ≡ step r (call.found role domain hours places devices))
     pub grant : calls-proofs.grant.Statement.statement M
     pub grant_says : (κs : _) (r : _) (role : _) (permission : _)
-        → Says (calls-proofs.grant.clauses 𝓛 mem runs κs (r, (role, (permission, tt)))) (λ q end. effect_of q ≡ step r (call.grant role permission))
+        → Says (calls-contracts.grant.clauses 𝓛 mem runs κs (r, (role, (permission, tt)))) (λ q end. effect_of q ≡ step r (call.grant role permission))
     pub withdraw : calls-proofs.withdraw.Statement.statement M
     pub withdraw_says : (κs : _) (r : _) (role : _) (permission : _)
-        → Says (calls-proofs.withdraw.clauses 𝓛 mem runs κs (r, (role, (permission, tt)))) (λ q end. effect_of q ≡ step r (call.withdraw role permission))
+        → Says (calls-contracts.withdraw.clauses 𝓛 mem runs κs (r, (role, (permission, tt)))) (λ q end. effect_of q ≡ step r (call.withdraw role permission))
     pub appoint : calls-proofs.appoint.Statement.statement M
     pub appoint_says : (κs : _) (r : _) (user : _) (role : _)
-        → Says (calls-proofs.appoint.clauses 𝓛 mem runs κs (r, (user, (role, tt)))) (λ q end. effect_of q ≡ step r (call.appoint user role))
+        → Says (calls-contracts.appoint.clauses 𝓛 mem runs κs (r, (user, (role, tt)))) (λ q end. effect_of q ≡ step r (call.appoint user role))
     pub dismiss : calls-proofs.dismiss.Statement.statement M
     pub dismiss_says : (κs : _) (r : _) (user : _) (role : _)
-        → Says (calls-proofs.dismiss.clauses 𝓛 mem runs κs (r, (user, (role, tt)))) (λ q end. effect_of q ≡ step r (call.dismiss user role))
+        → Says (calls-contracts.dismiss.clauses 𝓛 mem runs κs (r, (user, (role, tt)))) (λ q end. effect_of q ≡ step r (call.dismiss user role))
     pub clock : calls-proofs.clock.Statement.statement M
     pub clock_says : (κs : _) (r : _) (tick : _)
-        → Says (calls-proofs.clock.clauses 𝓛 mem runs κs (r, (tick, tt))) (λ q end. effect_of q ≡ step r (call.clock tick))
+        → Says (calls-contracts.clock.clauses 𝓛 mem runs κs (r, (tick, tt))) (λ q end. effect_of q ≡ step r (call.clock tick))
     pub create : calls-proofs.create.Statement.statement M
     pub create_says : (κs : _) (r : _) (user : _) (origin : _) (at : _) (plan : _)
-        → Says (calls-proofs.create.clauses 𝓛 mem runs κs (r, (user, (origin, (at, (plan, tt)))))) (λ q end. effect_of q ≡ step r (call.create user (named_origin origin) at plan))
+        → Says (calls-contracts.create.clauses 𝓛 mem runs κs (r, (user, (origin, (at, (plan, tt)))))) (λ q end. effect_of q ≡ step r (call.create user (named_origin origin) at plan))
     pub allow : calls-proofs.allow.Statement.statement M
     pub allow_says : (κs : _) (r : _) (user : _) (n : _) (permissions : _)
-        → Says (calls-proofs.allow.clauses 𝓛 mem runs κs (r, (user, (n, (permissions, tt))))) (λ q end. effect_of q ≡ step r (call.allow user n permissions))
+        → Says (calls-contracts.allow.clauses 𝓛 mem runs κs (r, (user, (n, (permissions, tt))))) (λ q end. effect_of q ≡ step r (call.allow user n permissions))
     pub lend : calls-proofs.lend.Statement.statement M
     pub lend_says : (κs : _) (r : _) (user : _) (n : _) (roles : _)
-        → Says (calls-proofs.lend.clauses 𝓛 mem runs κs (r, (user, (n, (roles, tt))))) (λ q end. effect_of q ≡ step r (call.lend user n roles))
+        → Says (calls-contracts.lend.clauses 𝓛 mem runs κs (r, (user, (n, (roles, tt))))) (λ q end. effect_of q ≡ step r (call.lend user n roles))
     pub hand : calls-proofs.hand.Statement.statement M
     pub hand_says : (κs : _) (r : _) (user : _) (receiver : _) (n : _)
-        → Says (calls-proofs.hand.clauses 𝓛 mem runs κs (r, (user, (receiver, (n, tt))))) (λ q end. effect_of q ≡ step r (call.hand user receiver n))
+        → Says (calls-contracts.hand.clauses 𝓛 mem runs κs (r, (user, (receiver, (n, tt))))) (λ q end. effect_of q ≡ step r (call.hand user receiver n))
     pub opening : calls-proofs.«open».Statement.statement M
     pub opening_says : (κs : _) (r : _) (session : _) (user : _) (on : _) (at : _)
-        → Says (calls-proofs.«open».clauses 𝓛 mem runs κs (r, (session, (user, (on, (at, tt)))))) (λ q end. effect_of q ≡ step r (call.opening session user (named_origin on) at))
+        → Says (calls-contracts.«open».clauses 𝓛 mem runs κs (r, (session, (user, (on, (at, tt)))))) (λ q end. effect_of q ≡ step r (call.opening session user (named_origin on) at))
     pub check : calls-proofs.check.Statement.statement M
     pub check_says : (κs : _) (r : _) (session : _) (permission : _) (at : _)
-        → Says (calls-proofs.check.clauses 𝓛 mem runs κs (r, (session, (permission, (at, tt))))) (λ q end. effect_of q ≡ step r (call.check session permission at))
+        → Says (calls-contracts.check.clauses 𝓛 mem runs κs (r, (session, (permission, (at, tt))))) (λ q end. effect_of q ≡ step r (call.check session permission at))
     pub amend : calls-proofs.amend.Statement.statement M
     pub amend_says : (κs : _) (r : _) (user : _) (n : _) (change : _)
-        → Says (calls-proofs.amend.clauses 𝓛 mem runs κs (r, (user, (n, (change, tt))))) (λ q end. effect_of q ≡ step r (call.amend user n (change_of change)))
+        → Says (calls-contracts.amend.clauses 𝓛 mem runs κs (r, (user, (n, (change, tt))))) (λ q end. effect_of q ≡ step r (call.amend user n (change_of change)))
     pub revoke : calls-proofs.revoke.Statement.statement M
     pub revoke_says : (κs : _) (r : _) (user : _) (n : _)
-        → Says (calls-proofs.revoke.clauses 𝓛 mem runs κs (r, (user, (n, tt)))) (λ q end. effect_of q ≡ step r (call.revoke user n))
+        → Says (calls-contracts.revoke.clauses 𝓛 mem runs κs (r, (user, (n, tt)))) (λ q end. effect_of q ≡ step r (call.revoke user n))
     pub close : calls-proofs.close.Statement.statement M
     pub close_says : (κs : _) (r : _) (session : _)
-        → Says (calls-proofs.close.clauses 𝓛 mem runs κs (r, (session, tt))) (λ q end. effect_of q ≡ step r (call.close session))
+        → Says (calls-contracts.close.clauses 𝓛 mem runs κs (r, (session, tt))) (λ q end. effect_of q ≡ step r (call.close session))
     pub same : calls-proofs.same.Statement.statement M
     pub same_says : (κs : _) (r : _) (first : _) (second : _)
-        → Says (calls-proofs.same.clauses 𝓛 mem runs κs (r, (first, (second, tt)))) (λ q end. effect_of q ≡ step r (call.same first second))
+        → Says (calls-contracts.same.clauses 𝓛 mem runs κs (r, (first, (second, tt)))) (λ q end. effect_of q ≡ step r (call.same first second))
     -- one request, and at most 64 of them
     pub apply : apply-proofs.apply.Statement.statement M
     pub apply_says : (κs : _) (r : _) (request : _)
-        → Says (apply-proofs.apply.clauses 𝓛 mem runs κs (r, (request, tt))) (λ q end. effect_of q ≡ step r (call_of request))
+        → Says (apply-contracts.apply.clauses 𝓛 mem runs κs (r, (request, tt))) (λ q end. effect_of q ≡ step r (call_of request))
     pub apply_all : batch-proofs.apply_all.Statement.statement M
     pub apply_all_says : (κs : _) (r : _) (items : _) (count : _)
-        → Says (batch-proofs.apply_all.clauses 𝓛 mem runs κs (r, (items, (count, tt)))) (λ q end. (q.register ≡ run r (calls_of count items)) × (outcomes_of q.answers ≡ padded_answers r count items))
+        → Says (batch-contracts.apply_all.clauses 𝓛 mem runs κs (r, (items, (count, tt)))) (λ q end. (q.register ≡ run r (calls_of count items)) × (outcomes_of q.answers ≡ padded_answers r count items))
     -- a journal, and one call from C
     pub journal : player-proofs.journal.Statement.statement M
     pub journal_says : (κs : _) (r : _) (input : _) (out : _)
-        → Says (player-proofs.journal.clauses 𝓛 mem runs κs (r, (input, (out, tt)))) (λ q end. (q ≡ journal_length r input.now out.now) × (end.1.1.0.now ≡ journal_buffer r input.now out.now) × (q ≤ length out.now))
+        → Says (player-contracts.journal.clauses 𝓛 mem runs κs (r, (input, (out, tt)))) (λ q end. (q ≡ journal_length r input.now out.now) × (end.1.1.0.now ≡ journal_buffer r input.now out.now) × (q ≤ length out.now))
     pub fellunqa_apply : fellunqa-proofs.fellunqa_apply.Statement.statement M
     pub fellunqa_apply_says : (κs : _) (image : _) (line : _) (area : _)
-        → Says (fellunqa-proofs.fellunqa_apply.clauses 𝓛 mem runs κs (image, (line, (area, tt)))) (λ q end. (q ≡ returned (entry image.now line.now (length area.now))) × (end.1.1.0.now ≡ buffer_after (entry image.now line.now (length area.now)) area.now))
+        → Says (fellunqa-contracts.fellunqa_apply.clauses 𝓛 mem runs κs (image, (line, (area, tt)))) (λ q end. (q ≡ returned (entry image.now line.now (length area.now))) × (end.1.1.0.now ≡ buffer_after (entry image.now line.now (length area.now)) area.now))
     -- images
     pub save : image-proofs.save.Statement.statement M
     pub save_says : (κs : _) (r : _) (buffer : _)
-        → Says (image-proofs.save.clauses 𝓛 mem runs κs (r, (buffer, tt))) (λ q end. (outcome_of q ≡ (save_effect r (length buffer.now)).answer) × (end.1.0.now ≡ saved_buffer r buffer.now (save_effect r (length buffer.now)).answer))
+        → Says (image-contracts.save.clauses 𝓛 mem runs κs (r, (buffer, tt))) (λ q end. (outcome_of q ≡ (save_effect r (length buffer.now)).answer) × (end.1.0.now ≡ saved_buffer r buffer.now (save_effect r (length buffer.now)).answer))
     pub load : image-proofs.load.Statement.statement M
     pub load_says : (κs : _) (r : _) (s : _)
-        → Says (image-proofs.load.clauses 𝓛 mem runs κs (r, (s, tt))) (λ q end. effect_of q ≡ load_effect r s.now)
+        → Says (image-contracts.load.clauses 𝓛 mem runs κs (r, (s, tt))) (λ q end. effect_of q ≡ load_effect r s.now)
     -- the journal program
     pub play : terminal-proofs.play.Statement.statement M
     pub play_says : (κs : _) (input : _) (out : _)
-        → Says (terminal-proofs.play.clauses 𝓛 mem runs κs (input, (out, tt))) (λ q end. Plays end.0.now out.now end.1.0.now q)
+        → Says (terminal-contracts.play.clauses 𝓛 mem runs κs (input, (out, tt))) (λ q end. Plays end.0.now out.now end.1.0.now q)

@@ -13,7 +13,7 @@ use Rattle.image.proofs as image-proofs
 use Rattle.player.proofs as player-proofs
 use Rattle.fellunqa.proofs as fellunqa-proofs
 use Rattle.terminal.proofs as terminal-proofs
-use Rattle.promise.specs.Contracts.{Contracts}
+use Rattle.promise.specs.PublicContracts.{Contracts}
 
 pub contracts : {M : Type 1} {𝓤 : Ura M} (𝓛 : Logic 𝓤) (mem : Memory → SProp 𝓤) (runs : Routine → Fun 𝓤) → Contracts 𝓛 mem runs
 contracts 𝓛 mem runs =
