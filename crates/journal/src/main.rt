@@ -4,13 +4,13 @@
 
 use terminal::options::Wish;
 
-fn main() {
-    let wish = terminal::options::asked_for();
+fn main(rt: HostRuntime) {
+    let wish = terminal::options::asked_for(&rt);
     let Wish::Journal = wish else {
-        terminal::inform(wish);
+        terminal::inform(&rt, wish);
         return;
     };
     let mut input = [0u8; 32769];
     let mut out = [0u8; 163840];
-    terminal::play(&mut input, &mut out);
+    terminal::play(&rt, &mut input, &mut out);
 }

@@ -4,6 +4,8 @@ ghost use Rattle.std.specs.Prelude.{◌≡◌};
 ghost use Rattle.terminal.specs.Options.{asked};
 
 use buffers::same_bytes;
+use std::env::FillError;
+use std::rt::Env;
 
 #[derive(Clone, Copy)]
 pub enum Wish {
@@ -26,15 +28,14 @@ fn wish_of(word: &[u8]) -> Wish
 }
 
 // What the program was started for: a journal where there are no arguments. One that the room cannot hold is read as an empty word.
-pub fn asked_for() -> Wish {
-    let count = os::arg_count();
-    if count <= 1 {
+pub fn asked_for<R: Env>(rt: &R) -> Wish {
+    let mut room = [0u8; 16];
+    if let Err(FillError::NotPresent) = rt.arg(1, &mut room) {
         return Wish::Journal;
     }
-    if count > 2 {
-        return Wish::Unknown;
+    if let Err(FillError::NotPresent) = rt.arg(2, &mut room) {
+        let n = rt.arg(1, &mut room).unwrap_or(0);
+        return wish_of(&room[..n]);
     }
-    let mut room = [0u8; 16];
-    let n = os::arg(1, &mut room);
-    wish_of(&room[..n])
+    Wish::Unknown
 }

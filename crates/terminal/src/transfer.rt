@@ -1,11 +1,12 @@
-// Bytes from standard input and to standard output, by as many calls as the system asks for. Its contracts do not say which bytes a
-// call moves, so what is said here is how many, and why a transfer stopped.
+// Bytes from a reader and to a writer, by as many calls as they ask for. The contracts of standard input and output do not say which
+// bytes a call moves, so what is said here is how many, and why a transfer stopped.
 ghost use Rattle.std.specs.Prelude.{length};
 ghost use Rattle.terminal.specs.Transfer.{Moves, Transfers};
 
-use libc::{EAGAIN, EINTR, STDIN_FILENO, STDOUT_FILENO};
+use std::io::{ErrorKind, Read, Write};
+use std::{io, thread};
 
-// Why a transfer stopped: the input ended, all of the lent bytes were moved, or a call failed and errno says why.
+// Why a transfer stopped: the input ended, all of the lent bytes were moved, or a call failed. `cause` then has its error.
 #[derive(Clone, Copy)]
 pub enum End {
     Ended,
@@ -28,53 +29,68 @@ pub struct Transferred {
 }
 
 // Whether a call that failed is to be tried again: a signal interrupted it, or the descriptor would block.
-fn again() -> bool {
-    let error = os::errno();
-    if error == EAGAIN {
-        libc::sched_yield();
-        return true;
+fn again(error: io::Error) -> bool {
+    match error.kind() {
+        ErrorKind::WouldBlock => {
+            thread::yield_now();
+            true
+        }
+        ErrorKind::Interrupted => true,
+        _ => false,
     }
-    error == EINTR
 }
 
-fn read_some(room: &mut [u8]) -> Moved
+fn read_some<R: Read>(input: &mut R, room: &mut [u8], cause: &mut Option<io::Error>) -> Moved
     ensures { Moves (length room.new) result }
 {
     if room.len() == 0 {
         return Moved::Stop(End::Whole);
     }
-    let got = libc::read(STDIN_FILENO, room);
-    if got == 0 {
-        return Moved::Stop(End::Ended);
+    match input.read(room) {
+        Ok(0) => Moved::Stop(End::Ended),
+        Ok(n) => Moved::Bytes(n),
+        Err(error) => {
+            *cause = Some(error);
+            if again(error) {
+                Moved::Bytes(0)
+            } else {
+                Moved::Stop(End::Failed)
+            }
+        }
     }
-    if got < 0 && !again() {
-        return Moved::Stop(End::Failed);
-    }
-    Moved::Bytes(io::count(got, room))
 }
 
-fn write_some(bytes: &[u8]) -> Moved
+fn write_some<W: Write>(output: &mut W, bytes: &[u8], cause: &mut Option<io::Error>) -> Moved
     ensures { Moves (length bytes.now) result }
 {
     if bytes.len() == 0 {
         return Moved::Stop(End::Whole);
     }
-    let put = libc::write(STDOUT_FILENO, bytes);
-    if put <= 0 && !again() {
-        return Moved::Stop(End::Failed);
+    match output.write(bytes) {
+        Ok(0) => {
+            *cause = Some(io::Error::from(ErrorKind::WriteZero));
+            Moved::Stop(End::Failed)
+        }
+        Ok(n) => Moved::Bytes(n),
+        Err(error) => {
+            *cause = Some(error);
+            if again(error) {
+                Moved::Bytes(0)
+            } else {
+                Moved::Stop(End::Failed)
+            }
+        }
     }
-    Moved::Bytes(io::count(put, bytes))
 }
 
 // Reads until the input ends, the room is full or a read fails. A proved loop has to end, and nothing says that a descriptor which
-// would block stops doing so: the turns are counted down from a number that no run uses up.
-pub fn fill(room: &mut [u8]) -> Transferred
+// would block stops doing so: the turns are bounded by a number that no run uses up.
+pub fn fill<R: Read>(input: &mut R, room: &mut [u8], cause: &mut Option<io::Error>) -> Transferred
     ensures { Transfers (length room.new) result }
 {
     let mut at: usize = 0;
-    let mut turns = u64::MAX;
-    while turns > 0 {
-        let moved = read_some(&mut room[at..]);
+    for _ in 0..u64::MAX {
+        let moved = read_some(input, &mut room[at..], cause);
         match moved {
             Moved::Bytes(k) => {
                 at += k;
@@ -86,7 +102,6 @@ pub fn fill(room: &mut [u8]) -> Transferred
                 };
             }
         }
-        turns -= 1;
     }
     Transferred {
         count: at,
@@ -95,13 +110,12 @@ pub fn fill(room: &mut [u8]) -> Transferred
 }
 
 // Writes until all is written or a write fails.
-pub fn drain(bytes: &[u8]) -> Transferred
+pub fn drain<W: Write>(output: &mut W, bytes: &[u8], cause: &mut Option<io::Error>) -> Transferred
     ensures { Transfers (length bytes.now) result }
 {
     let mut at: usize = 0;
-    let mut turns = u64::MAX;
-    while turns > 0 {
-        let moved = write_some(&bytes[at..]);
+    for _ in 0..u64::MAX {
+        let moved = write_some(output, &bytes[at..], cause);
         match moved {
             Moved::Bytes(k) => {
                 at += k;
@@ -113,7 +127,6 @@ pub fn drain(bytes: &[u8]) -> Transferred
                 };
             }
         }
-        turns -= 1;
     }
     Transferred {
         count: at,
