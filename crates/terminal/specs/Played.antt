@@ -1,5 +1,6 @@
 -- What the journal program makes of the bytes that it reads.
-use Rattle.std.specs.Prelude.{◌≡◌, List, ℕ, length, take}
+use Rattle.std.specs.Prelude.{◌≡◌, List, ℕ, length, take, Option, IfSome}
+use Rattle.std.specs.Io.KnownBytes.{Appends}
 use Rattle.masks.specs.Bytes.{front}
 use Rattle.model.specs.Journal.{program}
 use Rattle.terminal.specs.Transfer.{Transfers}
@@ -22,3 +23,8 @@ Answers Failed input before after written = (after ≡ before) × (written ≡ r
 abbrev pub Plays : (room before after : List ℕ) → Played → Type 0
 Plays room before after p =
     Transfers 32769 p.input × Answers p.input.end (take p.input.count room) before after p.output
+
+-- where the reader was read to its end and the writer took all, it holds, after what it held, the program's answers to all that was
+-- left to read; this speaks of readers and writers whose bytes are known
+abbrev pub AnswersWhole : Played → (left held after : Option (List ℕ)) → Type 0
+AnswersWhole p left held after = p.input.end ≡ Ended → p.output.end ≡ Whole → IfSome left (λ input. Appends held after (program input))

@@ -1,5 +1,6 @@
 -- How many bytes a transfer moves, and why it stops.
-use Rattle.std.specs.Prelude.{◌≡◌, ℕ, ◌≤◌, ◌<◌}
+use Rattle.std.specs.Prelude.{◌≡◌, ℕ, ◌≤◌, ◌<◌, List, Option, ⊤}
+use Rattle.std.specs.Io.KnownBytes.{IsAtEnd}
 use Rattle.terminal.specs.declared.transfer.End.{End}
 use Rattle.terminal.specs.declared.transfer.End.TheVariants.{Ended, Whole, Failed}
 use Rattle.terminal.specs.declared.transfer.Moved.{Moved}
@@ -17,5 +18,21 @@ abbrev pub Moves : ℕ → Moved → Type 0
 Moves lent (Bytes k) = k ≤ lent
 Moves lent (Stop end) = Ends lent 0 end
 
+-- where a transfer says that the input ended, no known byte is left
+abbrev pub EndsAtEnd : End → Option (List ℕ) → Type 0
+EndsAtEnd Ended left = IsAtEnd left
+EndsAtEnd Whole left = ⊤
+EndsAtEnd Failed left = ⊤
+
 abbrev pub Transfers : ℕ → Transferred → Type 0
 Transfers lent t = Ends lent t.count t.end
+
+-- how many bytes one call moved
+abbrev pub moved : Moved → ℕ
+moved (Bytes k) = k
+moved (Stop end) = 0
+
+-- where a call says that the input ended, no known byte is left
+abbrev pub StopsAtEnd : Moved → Option (List ℕ) → Type 0
+StopsAtEnd (Bytes k) left = ⊤
+StopsAtEnd (Stop end) left = EndsAtEnd end left

@@ -3,13 +3,15 @@
 #![tactic(auto)]
 
 ghost use Rattle.std.specs.Prelude.{◌≡◌, ◌≤◌, length, take};
+ghost use Rattle.std.specs.Io.KnownBytes.{Appends, Consumes, Keeps};
 ghost use Rattle.masks.specs.Bytes.{front};
 ghost use Rattle.model.specs.Journal.{program};
-ghost use Rattle.terminal.specs.Played.{Replies, Plays};
+ghost use Rattle.terminal.specs.Transfer.{Transfers};
+ghost use Rattle.terminal.specs.Played.{Answers, AnswersWhole, Replies, Plays};
 
 use options::Wish;
 use std::io;
-use std::io::{Input, Write};
+use std::io::{Input, Read, Write};
 use transfer::{End, Transferred, drain, fill};
 
 mod faults;
@@ -33,44 +35,63 @@ fn answer(input: &[u8], out: &mut [u8]) -> usize
 }
 
 // What was not written whole is told on standard error. Some writers say so only as they are flushed.
-fn finish<R: Print + Eprint>(rt: &R, written: Transferred, cause: Option<io::Error>) {
-    let end = written.end;
-    if let End::Whole = end {
-        if written.count == 0 {
-            return;
-        }
-        match io::writer(rt).flush() {
-            Ok(()) => {}
-            Err(error) => faults::tell(rt, "journal: output", Some(error)),
-        }
+fn finish<W: Write, E: Eprint>(
+    rt: &E,
+    writer: &mut W,
+    written: Transferred,
+    cause: Option<io::Error>,
+)
+    ensures { Keeps (W.contents writer.old) (W.contents writer.new) }
+{
+    let End::Whole = written.end else {
+        faults::tell(rt, "journal: output", cause);
+        return;
+    };
+    if written.count == 0 {
         return;
     }
-    faults::tell(rt, "journal: output", cause);
+    if let Err(error) = writer.flush() {
+        faults::tell(rt, "journal: output", Some(error));
+    }
 }
 
 // The answers to the first n bytes of the room, written out.
-fn reply<R: Print + Eprint>(rt: &R, room: &[u8], n: usize, out: &mut [u8]) -> Transferred
+fn reply<W: Write, E: Eprint>(
+    rt: &E,
+    writer: &mut W,
+    room: &[u8],
+    n: usize,
+    out: &mut [u8],
+) -> Transferred
     requires n_in_bounds { n ≤ length room.now }
     requires in_bounds { 163840 ≤ length out.old }
-    ensures { Replies (take n room.now) out.old out.new result }
+    ensures replies { Replies (take n room.now) out.old out.new result }
+    ensures bytes { Appends (W.contents writer.old) (W.contents writer.new) (take result.count (program (take n room.now))) }
 {
     let k = answer(&room[..n], out);
     let mut cause = None;
-    let written = drain(&mut io::writer(rt), &out[..k], &mut cause);
-    finish(rt, written, cause);
+    let written = drain(writer, &out[..k], &mut cause);
+    finish(rt, writer, written, cause);
     written
 }
 
-// Plays standard input. Where it cannot be read to its end, that is told on standard error and nothing is answered.
-pub fn play<R: Input + Print + Eprint>(
-    rt: &R,
-    input: &mut [u8; 32769],
-    out: &mut [u8; 163840],
+// Plays what a reader gives. Where it cannot be read to its end, that is told on standard error and nothing is answered.
+pub fn play_streams<R: Read, W: Write, E: Eprint>(
+    rt: &E,
+    reader: &mut R,
+    writer: &mut W,
+    room: &mut [u8],
+    out: &mut [u8],
 ) -> Played
-    ensures { Plays input.new out.old out.new result }
+    requires { 163840 ≤ length out.old }
+    ensures transfers { Transfers (length room.new) result.input }
+    ensures answers { Answers result.input.end (take result.input.count room.new) out.old out.new result.output }
+    ensures reads { Consumes (R.remaining reader.old) (R.remaining reader.new) (take result.input.count room.new) }
+    ensures writes { Appends (W.contents writer.old) (W.contents writer.new) (take result.output.count (program (take result.input.count room.new))) }
+    ensures whole { AnswersWhole result (R.remaining reader.old) (W.contents writer.old) (W.contents writer.new) }
 {
     let mut cause = None;
-    let read = fill(&mut rt.reader(), input, &mut cause);
+    let read = fill(reader, room, &mut cause);
     let end = read.end;
     if let End::Failed = end {
         faults::tell(rt, "journal: input", cause);
@@ -83,18 +104,30 @@ pub fn play<R: Input + Print + Eprint>(
         };
     }
     let n = read.count;
-    let written = reply(rt, input, n, out);
+    let written = reply(rt, writer, room, n, out);
     Played {
         input: read,
         output: written,
     }
 }
 
+// Plays standard input, and answers on standard output.
+pub fn play<R: Input + Print + Eprint>(
+    rt: &R,
+    input: &mut [u8; 32769],
+    out: &mut [u8; 163840],
+) -> Played
+    ensures { Plays input.new out.old out.new result }
+{
+    play_streams(rt, &mut rt.reader(), &mut io::writer(rt), input, out)
+}
+
 // Writes what is asked for in place of a journal.
 fn show<R: Print + Eprint>(rt: &R, text: &str) {
+    let mut writer = io::writer(rt);
     let mut cause = None;
-    let written = drain(&mut io::writer(rt), text.as_bytes(), &mut cause);
-    finish(rt, written, cause);
+    let written = drain(&mut writer, text.as_bytes(), &mut cause);
+    finish(rt, &mut writer, written, cause);
 }
 
 // Tells what was asked for in place of a journal. Arguments that are not known are told on standard error, as a fault is.

@@ -30,12 +30,12 @@ fn wish_of(word: &[u8]) -> Wish
 // What the program was started for: a journal where there are no arguments. One that the room cannot hold is read as an empty word.
 pub fn asked_for<R: Env>(rt: &R) -> Wish {
     let mut room = [0u8; 16];
-    if let Err(FillError::NotPresent) = rt.arg(1, &mut room) {
-        return Wish::Journal;
+    let Err(FillError::NotPresent) = rt.arg(2, &mut room) else {
+        return Wish::Unknown;
+    };
+    match rt.arg(1, &mut room) {
+        Ok(n) => wish_of(&room[..n]),
+        Err(FillError::TooLong) => wish_of(b""),
+        Err(FillError::NotPresent) => Wish::Journal,
     }
-    if let Err(FillError::NotPresent) = rt.arg(2, &mut room) {
-        let n = rt.arg(1, &mut room).unwrap_or(0);
-        return wish_of(&room[..n]);
-    }
-    Wish::Unknown
 }

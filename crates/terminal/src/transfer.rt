@@ -1,7 +1,8 @@
-// Bytes from a reader and to a writer, by as many calls as they ask for. The contracts of standard input and output do not say which
-// bytes a call moves, so what is said here is how many, and why a transfer stopped.
-ghost use Rattle.std.specs.Prelude.{length};
-ghost use Rattle.terminal.specs.Transfer.{Moves, Transfers};
+// Bytes from a reader and to a writer, by as many calls as they ask for: which bytes, where those of the reader or the writer are
+// known. Those of standard input and output are not, so of them it is said how many, and why a transfer stopped.
+ghost use Rattle.std.specs.Prelude.{length, take};
+ghost use Rattle.std.specs.Io.KnownBytes.{Appends, Consumes};
+ghost use Rattle.terminal.specs.Transfer.{Moves, StopsAtEnd, moved, EndsAtEnd, Transfers};
 
 use std::io::{ErrorKind, Read, Write};
 use std::{io, thread};
@@ -28,8 +29,10 @@ pub struct Transferred {
     pub end: End,
 }
 
-// Whether a call that failed is to be tried again: a signal interrupted it, or the descriptor would block.
-fn again(error: io::Error) -> bool {
+// Keeps the error of a call that failed, and says whether it is to be tried again: a signal interrupted it, or the descriptor would
+// block.
+fn again(error: io::Error, cause: &mut Option<io::Error>) -> bool {
+    *cause = Some(error);
     match error.kind() {
         ErrorKind::WouldBlock => {
             thread::yield_now();
@@ -41,7 +44,9 @@ fn again(error: io::Error) -> bool {
 }
 
 fn read_some<R: Read>(input: &mut R, room: &mut [u8], cause: &mut Option<io::Error>) -> Moved
-    ensures { Moves (length room.new) result }
+    ensures moves { Moves (length room.new) result }
+    ensures bytes { Consumes (R.remaining input.old) (R.remaining input.new) (take (moved result) room.new) }
+    ensures end { StopsAtEnd result (R.remaining input.new) }
 {
     if room.len() == 0 {
         return Moved::Stop(End::Whole);
@@ -49,19 +54,14 @@ fn read_some<R: Read>(input: &mut R, room: &mut [u8], cause: &mut Option<io::Err
     match input.read(room) {
         Ok(0) => Moved::Stop(End::Ended),
         Ok(n) => Moved::Bytes(n),
-        Err(error) => {
-            *cause = Some(error);
-            if again(error) {
-                Moved::Bytes(0)
-            } else {
-                Moved::Stop(End::Failed)
-            }
-        }
+        Err(error) if again(error, cause) => Moved::Bytes(0),
+        Err(_) => Moved::Stop(End::Failed),
     }
 }
 
 fn write_some<W: Write>(output: &mut W, bytes: &[u8], cause: &mut Option<io::Error>) -> Moved
-    ensures { Moves (length bytes.now) result }
+    ensures moves { Moves (length bytes.now) result }
+    ensures bytes { Appends (W.contents output.old) (W.contents output.new) (take (moved result) bytes.now) }
 {
     if bytes.len() == 0 {
         return Moved::Stop(End::Whole);
@@ -72,21 +72,18 @@ fn write_some<W: Write>(output: &mut W, bytes: &[u8], cause: &mut Option<io::Err
             Moved::Stop(End::Failed)
         }
         Ok(n) => Moved::Bytes(n),
-        Err(error) => {
-            *cause = Some(error);
-            if again(error) {
-                Moved::Bytes(0)
-            } else {
-                Moved::Stop(End::Failed)
-            }
-        }
+        Err(error) if again(error, cause) => Moved::Bytes(0),
+        Err(_) => Moved::Stop(End::Failed),
     }
 }
 
 // Reads until the input ends, the room is full or a read fails. A proved loop has to end, and nothing says that a descriptor which
 // would block stops doing so: the turns are bounded by a number that no run uses up.
+#[tactic(auto, using(crate::proofs::Laws::reads_on))]
 pub fn fill<R: Read>(input: &mut R, room: &mut [u8], cause: &mut Option<io::Error>) -> Transferred
-    ensures { Transfers (length room.new) result }
+    ensures transfers { Transfers (length room.new) result }
+    ensures bytes { Consumes (R.remaining input.old) (R.remaining input.new) (take result.count room.new) }
+    ensures end { EndsAtEnd result.end (R.remaining input.new) }
 {
     let mut at: usize = 0;
     for _ in 0..u64::MAX {
@@ -110,8 +107,10 @@ pub fn fill<R: Read>(input: &mut R, room: &mut [u8], cause: &mut Option<io::Erro
 }
 
 // Writes until all is written or a write fails.
+#[tactic(auto, using(crate::proofs::Laws::writes_on))]
 pub fn drain<W: Write>(output: &mut W, bytes: &[u8], cause: &mut Option<io::Error>) -> Transferred
-    ensures { Transfers (length bytes.now) result }
+    ensures transfers { Transfers (length bytes.now) result }
+    ensures bytes { Appends (W.contents output.old) (W.contents output.new) (take result.count bytes.now) }
 {
     let mut at: usize = 0;
     for _ in 0..u64::MAX {
