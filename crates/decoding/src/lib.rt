@@ -31,7 +31,6 @@ fn chosen_length(w: usize, mask: u64, k: usize) -> usize
     n
 }
 
-#[tactic(auto, using(fields::proofs::Reading::bytes_drop, fields::proofs::Reading::number_small, crate::proofs::Decoding::read_domain))]
 fn read_domain_if(s: &[u8], at: usize, bit: u64) -> u8
     requires { (at < 60000) × Bytes s.now }
     ensures { result ≡ item_or 0 (λ t. number_of (first_bytes 1 t)) bit (drop at s.now) }
@@ -43,7 +42,6 @@ fn read_domain_if(s: &[u8], at: usize, bit: u64) -> u8
 }
 
 // "a domain byte each"
-#[tactic(auto, using(crate::proofs::Decoding::read_domain, crate::proofs::Reading::ChosenTo, crate::proofs::Reading::chosen_more, crate::proofs::Reading::chosen_all, masks::proofs::Truth::the))]
 fn read_domains(s: &[u8], from: usize, mask: u64) -> [u8; 64]
     requires { (from < 50000) × Bytes s.now }
     ensures { result ≡ read_chosen 0 (λ t. number_of (first_bytes 1 t)) 1 mask 64 (drop from s.now) }
@@ -72,7 +70,6 @@ fn read_role_if(s: &[u8], at: usize, bit: u64) -> Role
     read_role(s, at)
 }
 
-#[tactic(auto, using(crate::proofs::Reading::ChosenTo, crate::proofs::Reading::chosen_more, crate::proofs::Reading::chosen_all, masks::proofs::Truth::the))]
 fn read_roles(s: &[u8], from: usize, mask: u64) -> [Role; 32]
     requires { (from < 50000) × Bytes s.now }
     ensures { result ≡ read_chosen blank_role read_role 20 mask 32 (drop from s.now) }
@@ -102,7 +99,6 @@ fn read_session_if(s: &[u8], at: usize, bit: u64) -> Session
     read_session(s, at)
 }
 
-#[tactic(auto, using(crate::proofs::Reading::ChosenTo, crate::proofs::Reading::chosen_more, crate::proofs::Reading::chosen_all))]
 fn read_sessions(s: &[u8], from: usize, mask: u64) -> [Session; 64]
     requires { (from < 50000) × Bytes s.now }
     ensures { result ≡ read_chosen blank_session read_session 6 mask 64 (drop from s.now) }
@@ -167,7 +163,6 @@ pub struct ReadImage {
 }
 
 // The count at `from`, the capabilities and the sessions, which end the image, after what comes before them.
-#[tactic(auto, using(fields::proofs::Reading::bytes_drop, fields::proofs::Reading::number_small, crate::proofs::Rest::ReadTo, crate::proofs::Rest::read_start, crate::proofs::Rest::read_step, crate::proofs::Rest::read_rows, crate::proofs::Rest::read_after, crate::proofs::Rest::read_exact, crate::proofs::Rest::read_reach, crate::proofs::Rest::rest_register, crate::proofs::Rest::rest_exact))]
 fn read_rest(
     s: &[u8],
     from: usize,
@@ -213,7 +208,6 @@ fn read_rest(
 }
 
 // The register in an image, read without refusing, and whether the bytes are what that register saves, if it keeps the rules.
-#[tactic(auto, using(fields::proofs::Reading::bytes_drop, fields::proofs::Reading::number_small, crate::proofs::Rest::image_exact))]
 pub fn read_image(s: &[u8]) -> ReadImage
     ensures { (result.register ≡ decode s.now) × (result.exact ≡ exact_image s.now) × Bytes s.now }
 {

@@ -16,7 +16,6 @@ fn items(mask: u64) -> usize
 }
 
 // The bytes of the image of a register that keeps the rules: 26, one for each user, and those of its records.
-#[tactic(auto, using(crate::proofs::Lengths::LengthTo, crate::proofs::Lengths::length_start, crate::proofs::Lengths::length_fits, crate::proofs::Lengths::length_done))]
 pub fn image_length(r: Register) -> usize
     requires { T (well_formed r) }
     ensures { result ≡ length (encode r) }

@@ -17,7 +17,6 @@ pub mod length;
 mod section;
 
 // "map of enrolled users (8), a domain byte each"; the bytes written.
-#[tactic(auto, using(buffers::proofs::Parts::length_tail, crate::proofs::Whole::mapped_room))]
 fn put_users(s: &mut [u8], enrolled: u64, domains: [u8; 64]) -> usize
     requires { length (mapped 8 (bytes_of 1) enrolled domains) ≤ length s.old }
     ensures { (result ≡ length (mapped 8 (bytes_of 1) enrolled domains)) × (s.new ≡ front (mapped 8 (bytes_of 1) enrolled domains) s.old) }
@@ -28,7 +27,6 @@ fn put_users(s: &mut [u8], enrolled: u64, domains: [u8; 64]) -> usize
 }
 
 // "map of roles (4), each with .."; the bytes written.
-#[tactic(auto, using(buffers::proofs::Parts::length_tail, crate::proofs::Whole::mapped_room))]
 fn put_founded(s: &mut [u8], roles: [Role; 32]) -> usize
     requires { length (mapped 4 write_role (founded_roles roles) roles) ≤ length s.old }
     ensures { (result ≡ length (mapped 4 write_role (founded_roles roles) roles)) × (s.new ≡ front (mapped 4 write_role (founded_roles roles) roles) s.old) }

@@ -1,0 +1,27 @@
+use mathlib.Core.Path.{refl, sym}
+use mathlib.Core.List.{List, [], ◌++◌, append-nil}
+use Prim.Native.Nat.{ℕ}
+use Rattle.masks.specs.Bytes.{bytes_of}
+use Rattle.model.specs.Image.{encode}
+use Rattle.fields.proofs.Numbers.{length-bytes}
+use Rattle.fields.proofs.Writing.{writing_first, writing_done}
+use Rattle.fields.proofs.Putting.{turn}
+use Rattle.encoding.proofs.Whole.{users_bytes, roles_bytes, capabilities_bytes, sessions_bytes, encode_sections}
+use Rattle.encoding.proofs.put_image.Goals as goal
+
+pub returns : goal.returns
+returns c =
+    let room-all = c.requires.1 in
+    let r = c.args.r in
+    let s₀ = c.args.s.now in
+    let d : List ℕ = sessions_bytes r in
+    let cd : List ℕ = capabilities_bytes r ++ d in
+    let bcd : List ℕ = roles_bytes r ++ cd in
+    let abcd : List ℕ = users_bytes r ++ bcd in
+    let four = sym (length-bytes 4 r.clock) in
+    let w1 = writing_first (encode r) (bytes_of 4 r.clock) abcd s₀ _ 4 (encode_sections r) four room-all c.put.ensures (search) in
+    let w2 = (turn (encode r) abcd (users_bytes r) bcd 4 _ s₀ w1 room-all refl).step c.put_users-users.ensures (search) in
+    let w3 = (turn (encode r) bcd (roles_bytes r) cd _ _ s₀ w2 room-all refl).step c.put_founded-founded.ensures (search) in
+    let w4 = (turn (encode r) cd (capabilities_bytes r) d _ _ s₀ w3 room-all refl).step c.put_counted-created.ensures (search) in
+    let w5 = (turn (encode r) d d [] _ _ s₀ w4 room-all (sym (append-nil d))).step c.put_active-active.ensures (search) in
+    writing_done (encode r) [] _ _ s₀ w5 refl
