@@ -12,7 +12,7 @@ use model::{Refusal, Role};
 use slots::guards::{Guarded, first};
 use slots::{Decision, Slots, settle};
 
-#[tactic(auto, using(slots::proofs::GuardLaws::test, slots::proofs::GuardLaws::test_unless, slots::proofs::GuardLaws::nothing_more))]
+#[tactic(auto, using(slots::proofs::GuardLaws::test_when, slots::proofs::GuardLaws::test_unless, slots::proofs::GuardLaws::nothing_more))]
 fn enrol_guards(enrolled: u64, user: u32, domain: u32) -> Guarded
     ensures { guarded result ≡ first_number (enrolling enrolled user domain).guards }
 {
@@ -32,7 +32,7 @@ pub fn decide_enrol(v: Slots, user: u32, domain: u32) -> Decision
     settle(v, k, 0, w)
 }
 
-#[tactic(auto, using(slots::proofs::GuardLaws::test, slots::proofs::GuardLaws::test_unless, slots::proofs::GuardLaws::nothing_more))]
+#[tactic(auto, using(slots::proofs::GuardLaws::test_when, slots::proofs::GuardLaws::test_unless, slots::proofs::GuardLaws::nothing_more))]
 fn found_guards(x: Role, role: u32, domain: u32, hours: u32, places: u32, devices: u32) -> Guarded
     ensures { guarded result ≡ first_number (founding x role domain hours places devices).guards }
 {
@@ -71,7 +71,7 @@ pub fn decide_found(
     settle(v, k, 0, w)
 }
 
-#[tactic(auto, using(slots::proofs::GuardLaws::test, slots::proofs::GuardLaws::test_unless, slots::proofs::GuardLaws::nothing_more))]
+#[tactic(auto, using(slots::proofs::GuardLaws::test_when, slots::proofs::GuardLaws::test_unless, slots::proofs::GuardLaws::nothing_more))]
 fn grant_guards(x: Role, role: u32, permission: u32) -> Guarded
     ensures { guarded result ≡ first_number (granting x role permission).guards }
 {
@@ -94,7 +94,7 @@ pub fn decide_grant(v: Slots, role: u32, permission: u32) -> Decision
     settle(v, k, 0, w)
 }
 
-#[tactic(auto, using(slots::proofs::GuardLaws::test, slots::proofs::GuardLaws::test_unless, slots::proofs::GuardLaws::nothing_more))]
+#[tactic(auto, using(slots::proofs::GuardLaws::test_when, slots::proofs::GuardLaws::test_unless, slots::proofs::GuardLaws::nothing_more))]
 fn appoint_guards(enrolled: u64, domain: u8, x: Role, user: u32, role: u32) -> Guarded
     ensures { guarded result ≡ first_number (appointing enrolled domain x user role).guards }
 {
@@ -143,7 +143,7 @@ pub fn decide_dismiss(v: Slots, user: u32, role: u32) -> Decision
     settle(v, k, 0, w)
 }
 
-#[tactic(auto, using(masks::proofs::Truth::and_i, slots::proofs::GuardLaws::test, slots::proofs::GuardLaws::known, slots::proofs::GuardLaws::nothing_more))]
+#[tactic(auto, using(masks::proofs::Truth::and_i, slots::proofs::GuardLaws::test_when, slots::proofs::GuardLaws::known, slots::proofs::GuardLaws::nothing_more))]
 fn clock_guards(clock: u32, tick: u32) -> Guarded
     ensures { guarded result ≡ first_number (ticking clock tick).guards }
 {

@@ -71,7 +71,7 @@ fn apply_tree(r: Register, t: TreeRequest) -> Reply
     }
 }
 
-// The call on a register that is known to be well_formed_lem.
+// The call on a register that is known to be well-formed.
 pub fn apply_trusted(r: Register, q: Request) -> Reply
     requires { T (well_formed r) }
     ensures { effect_of result ≡ settled r (call_of q) }

@@ -64,7 +64,7 @@ fn refusals(n: usize) -> [Told; 64]
     answers
 }
 
-// The first n requests, on a register that is known to be well_formed_lem; each call goes by value.
+// The first n requests, on a register that is known to be well-formed; each call goes by value.
 #[tactic(auto, using(crate::proofs::Laws::Playing, crate::proofs::Laws::playing_start, crate::proofs::Laws::playing_more, crate::proofs::Laws::playing_done))]
 fn apply_formed(start: Register, items: [Item; 64], n: usize) -> Played
     requires t { T (well_formed start) }

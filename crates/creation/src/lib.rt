@@ -66,7 +66,7 @@ fn made(user: u32, origin: Named, plan: Plan) -> Capability
 }
 
 // The tests of create, from the last to the first: the origin o is read from its slot and allows a.
-#[tactic(auto, using(slots::proofs::GuardLaws::test, slots::proofs::GuardLaws::test_unless, slots::proofs::GuardLaws::test_ranged, slots::proofs::GuardLaws::nothing_more, crate::proofs::Laws::made_exact))]
+#[tactic(auto, using(slots::proofs::GuardLaws::test_when, slots::proofs::GuardLaws::test_unless, slots::proofs::GuardLaws::test_ranged, slots::proofs::GuardLaws::nothing_more, crate::proofs::Laws::made_exact))]
 fn create_guards(
     v: Slots,
     o: Origin,

@@ -14,7 +14,7 @@ use Rattle.model.proofs.Settling.{Settled, accepted, declined, settle_cases}
 use Rattle.origins.specs.Authority.{Columns}
 use Rattle.slots.specs.declared.Slots.{Slots}
 use Rattle.slots.specs.declared.Decision.{Decision}
-use Rattle.slots.specs.Slots.{Places, look, put, ruled_of}
+use Rattle.slots.specs.Slots.{Places, look, ruled_of}
 use Rattle.places.specs.Requests.{names_of, changes_role}
 use Rattle.administration.specs.Administration.{enrol_decision, clock_decision}
 use Rattle.creation.specs.Creation.{create_decision}

@@ -1,6 +1,6 @@
 -- Intermediate: the code's own terms, proved to come to the definitions of `model`.
 -- What an origin allows, as the code reads it, and the rules of one thing over that.
-use Rattle.std.specs.Prelude.{Bool, cond, ◌&&◌, List, [], ◌∷◌, ℕ, ◌%◌, ◌^◌, eqb, leb, ltb}
+use Rattle.std.specs.Prelude.{Bool, cond, List, [], ◌∷◌, ℕ, eqb, leb, ltb}
 use Rattle.masks.specs.Masks.{has, within}
 use Rattle.masks.specs.Tests.{each}
 use Rattle.model.specs.declared.Role.{Role}

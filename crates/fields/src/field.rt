@@ -40,7 +40,7 @@ fn put_set(s: &mut [u8], code: usize, v: u64) -> usize
 }
 
 // Writes all fields one after another; the bytes written.
-#[tactic(auto, using(crate::proofs::Putting::each_field, crate::proofs::Putting::FieldsTo, crate::proofs::Putting::fields_turn, crate::proofs::Putting::fields_step, crate::proofs::Putting::fields_done, masks::proofs::Truth::the))]
+#[tactic(auto, using(crate::proofs::Putting::each_field, crate::proofs::Putting::FieldsTo, crate::proofs::Putting::fields_turn, crate::proofs::Putting::fields_step, crate::proofs::Putting::fields_done))]
 pub fn put_all(s: &mut [u8], codes: &[u8], values: &[u64]) -> usize
     requires { (length codes.now ≡ length values.now) × (length (write_all (codings codes.now) values.now) ≤ length s.old) }
     ensures { (result ≡ length (write_all (codings codes.now) values.now)) × (s.new ≡ front (write_all (codings codes.now) values.now) s.old) }
@@ -56,7 +56,7 @@ pub fn put_all(s: &mut [u8], codes: &[u8], values: &[u64]) -> usize
 }
 
 // Writes the fields that are not 0; the bytes written.
-#[tactic(auto, using(crate::proofs::Putting::each_present, crate::proofs::Putting::FieldsTo, crate::proofs::Putting::fields_turn, crate::proofs::Putting::fields_step, crate::proofs::Putting::fields_done, masks::proofs::Truth::the))]
+#[tactic(auto, using(crate::proofs::Putting::each_present, crate::proofs::Putting::FieldsTo, crate::proofs::Putting::fields_turn, crate::proofs::Putting::fields_step, crate::proofs::Putting::fields_done))]
 pub fn put_present(s: &mut [u8], codes: &[u8], values: &[u64]) -> usize
     requires { (length codes.now ≡ length values.now) × (length (write_present (codings codes.now) values.now) ≤ length s.old) }
     ensures { (result ≡ length (write_present (codings codes.now) values.now)) × (s.new ≡ front (write_present (codings codes.now) values.now) s.old) }

@@ -4,7 +4,7 @@ ghost use Rattle.masks.specs.Bytes.{bytes_of, number_of, map_bytes, mask_of, fir
 ghost use Rattle.fields.specs.Codes.{Bytes};
 
 // Writes n as k bytes, high byte first, at the front of s.
-#[tactic(auto, using(buffers::proofs::Digits::DigitsFrom, buffers::proofs::Digits::digits_start, buffers::proofs::Digits::digits_step, buffers::proofs::Digits::digits_done, crate::proofs::Parts::byte_digits, masks::proofs::Truth::the))]
+#[tactic(auto, using(buffers::proofs::Digits::DigitsFrom, buffers::proofs::Digits::digits_start, buffers::proofs::Digits::digits_step, buffers::proofs::Digits::digits_done, crate::proofs::Parts::byte_digits))]
 pub fn put(s: &mut [u8], k: usize, n: u64)
     requires { k ≤ length s.old }
     ensures { s.new ≡ front (bytes_of k n) s.old }

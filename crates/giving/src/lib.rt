@@ -16,7 +16,7 @@ use slots::terms::origin_allows;
 use slots::{Decision, Slots, settle};
 
 // The tests of hand, from the last to the first.
-#[tactic(auto, using(slots::proofs::GuardLaws::test, slots::proofs::GuardLaws::test_unless, slots::proofs::GuardLaws::nothing_more))]
+#[tactic(auto, using(slots::proofs::GuardLaws::test_when, slots::proofs::GuardLaws::test_unless, slots::proofs::GuardLaws::nothing_more))]
 fn hand_guards(
     enrolled: u64,
     count: u16,
@@ -47,7 +47,7 @@ fn hand_guards(
 }
 
 // The tests of allow and lend: `given` is what the origin may give, `had` what the capability has already.
-#[tactic(auto, using(slots::proofs::GuardLaws::test, slots::proofs::GuardLaws::test_unless, slots::proofs::GuardLaws::nothing_more, crate::proofs::Laws::and_sure))]
+#[tactic(auto, using(slots::proofs::GuardLaws::test_when, slots::proofs::GuardLaws::test_unless, slots::proofs::GuardLaws::nothing_more, crate::proofs::Laws::and_sure))]
 fn give_guards(
     enrolled: u64,
     count: u16,

@@ -13,10 +13,6 @@ use Rattle.masks.specs.Tests.{each, Each, implies}
 pub told : {A : Type 0} {x y z : A} → x ≡ y → x ≡ z → y ≡ z
 told p q = sym p ∙ q
 
--- a place of a function, found by its type: `the tie.Start (search)`
-abbrev pub the : (A : Type 0) → A → A
-the A x = x
-
 pub true→T : (b : Bool) → b ≡ true → T b
 true→T b e = subst T (sym e) tt
 

@@ -117,5 +117,5 @@ module _ {M : Type 1} {𝓤 : Ura M} (𝓛 : Logic 𝓤) (mem : Memory → SProp
         → Says (image-contracts.load.clauses 𝓛 mem runs κs (r, (s, tt))) (λ q end. effect_of q ≡ load_effect r s.now)
     -- the journal program
     pub play : terminal-proofs.play.Statement.statement M
-    pub play_says : (κs : _) (input : _) (out : _)
-        → Says (terminal-contracts.play.clauses 𝓛 mem runs κs (input, (out, tt))) (λ q end. Plays end.0.now out.now end.1.0.now q)
+    pub play_says : (κs : _) (rt : _) (input : _) (out : _)
+        → Says (terminal-contracts.play.clauses 𝓛 mem runs κs (rt, (input, (out, tt)))) (λ q end. Plays end.1.0.now out.now end.1.1.0.now q)

@@ -25,7 +25,7 @@ fn role_of(f: [u64; 6]) -> Role
     }
 }
 
-#[tactic(auto, using(crate::proofs::Tables::says_table, crate::proofs::Tables::role_codes_lem, crate::proofs::Tables::role_count, crate::proofs::Tables::role_reads, masks::proofs::Truth::the))]
+#[tactic(auto, using(crate::proofs::Tables::says_table, crate::proofs::Tables::role_codes_lem, crate::proofs::Tables::role_count, crate::proofs::Tables::role_reads))]
 pub fn read_role(s: &[u8], at: usize) -> Role
     requires { (at < 60000) × Bytes s.now }
     ensures { result ≡ read_role (drop at s.now) }
@@ -37,7 +37,7 @@ pub fn read_role(s: &[u8], at: usize) -> Role
 }
 
 // "kind (1: 0 role, 1 pass), number (1)"
-#[tactic(auto, using(crate::proofs::Records::origin_capability, masks::proofs::Truth::the))]
+#[tactic(auto, using(crate::proofs::Records::origin_capability))]
 fn origin_of(kind: u64, n: u64) -> Origin
     requires { n < 256 }
     ensures { result ≡ origin_of kind n }
@@ -64,7 +64,7 @@ fn session_of(f: [u64; 6]) -> Session
     }
 }
 
-#[tactic(auto, using(crate::proofs::Tables::says_table, crate::proofs::Tables::session_codes_lem, crate::proofs::Tables::session_count, crate::proofs::Tables::session_reads, masks::proofs::Truth::the))]
+#[tactic(auto, using(crate::proofs::Tables::says_table, crate::proofs::Tables::session_codes_lem, crate::proofs::Tables::session_count, crate::proofs::Tables::session_reads))]
 pub fn read_session(s: &[u8], at: usize) -> Session
     requires { (at < 60000) × Bytes s.now }
     ensures { result ≡ read_session (drop at s.now) }
@@ -122,7 +122,7 @@ pub struct ReadCapability {
 }
 
 // The capability at `at`, whether it is written exactly so, and the place after it.
-#[tactic(auto, using(crate::proofs::Tables::says_table, crate::proofs::Tables::capability_codes_lem, crate::proofs::Tables::capability_count, crate::proofs::Tables::head_fitted, crate::proofs::Tables::present_fitted, crate::proofs::Tables::capability_reads, crate::proofs::Tables::exact_reads, crate::proofs::Tables::length_reads, masks::proofs::Truth::the))]
+#[tactic(auto, using(crate::proofs::Tables::says_table, crate::proofs::Tables::capability_codes_lem, crate::proofs::Tables::capability_count, crate::proofs::Tables::head_fitted, crate::proofs::Tables::present_fitted, crate::proofs::Tables::capability_reads, crate::proofs::Tables::exact_reads, crate::proofs::Tables::length_reads))]
 pub fn read_capability(s: &[u8], at: usize) -> ReadCapability
     requires { (at < 50000) × Bytes s.now }
     ensures { (result.capability ≡ read_capability (drop at s.now)) × (result.next ≡ at + capability_length (drop at s.now)) × (result.exact ≡ exact_capability (drop at s.now)) }

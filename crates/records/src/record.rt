@@ -79,7 +79,7 @@ fn role_fields(x: Role) -> [u64; 6]
 }
 
 // Writes a role at the front of a part; the bytes written.
-#[tactic(auto, using(crate::proofs::Tables::Writes, crate::proofs::Tables::role_writes, masks::proofs::Truth::the))]
+#[tactic(auto, using(crate::proofs::Tables::Writes, crate::proofs::Tables::role_writes))]
 pub fn put_role(s: &mut [u8], x: Role) -> usize
     requires { length (write_role x) ≤ length s.old }
     ensures { (result ≡ length (write_role x)) × (s.new ≡ front (write_role x) s.old) }
@@ -105,7 +105,7 @@ fn session_fields(x: Session) -> [u64; 6]
 }
 
 // Writes a session at the front of a part; the bytes written.
-#[tactic(auto, using(crate::proofs::Tables::Writes, crate::proofs::Tables::session_writes, masks::proofs::Truth::the))]
+#[tactic(auto, using(crate::proofs::Tables::Writes, crate::proofs::Tables::session_writes))]
 pub fn put_session(s: &mut [u8], x: Session) -> usize
     requires { length (write_session x) ≤ length s.old }
     ensures { (result ≡ length (write_session x)) × (s.new ≡ front (write_session x) s.old) }
@@ -148,7 +148,7 @@ fn head_fields(c: Capability, map: u64) -> [u64; 4]
 }
 
 // Writes the head of a capability, with the map of its fields; it has 5 bytes.
-#[tactic(auto, using(crate::proofs::Tables::Writes, crate::proofs::Tables::head_writes, crate::proofs::Tables::head_length, masks::proofs::Truth::the))]
+#[tactic(auto, using(crate::proofs::Tables::Writes, crate::proofs::Tables::head_writes, crate::proofs::Tables::head_length))]
 fn put_head(s: &mut [u8], c: Capability, map: u64)
     requires { (map ≡ field_map (capability_fields c)) × (5 ≤ length s.old) }
     ensures { s.new ≡ front (write_head c) s.old }

@@ -14,7 +14,7 @@ use origins::terms::allowance_in;
 
 // The rules of the places below the bound, up to the first that breaks them. How many were created from each capability is counted
 // first; a function of its own for that would copy the register.
-#[tactic(auto, using(origins::proofs::Laws::held_placed, crate::proofs::Laws::all_more, crate::proofs::Laws::all_fails, crate::proofs::Counts::tally_le, crate::proofs::Counts::tally_more, crate::proofs::Counts::tally_at, crate::proofs::Agreement::place_agrees, masks::proofs::Truth::the), unfolding(crate::specs::Columns::tally, masks::specs::Tests::all_below))]
+#[tactic(auto, using(origins::proofs::Laws::held_placed, crate::proofs::Laws::all_more, crate::proofs::Laws::all_fails, crate::proofs::Counts::tally_le, crate::proofs::Counts::tally_more, crate::proofs::Counts::tally_at, crate::proofs::Agreement::place_agrees), unfolding(crate::specs::Columns::tally, masks::specs::Tests::all_below))]
 pub fn capabilities_keep(r: Register, bound: usize) -> bool
     requires { bound ≤ 256 }
     ensures { r.count ≤ 256 → result ≡ all_below bound (λ n. place_keeps r.enrolled r.roles r.count r.capabilities n (capability_at r.capabilities n)) }

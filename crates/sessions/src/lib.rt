@@ -126,7 +126,7 @@ pub fn decide_check(
 // ---- open
 
 // The tests of the user, the role or capability and the context; all that is named is there.
-#[tactic(auto, using(slots::proofs::GuardLaws::test, slots::proofs::GuardLaws::test_unless, slots::proofs::GuardLaws::nothing_more))]
+#[tactic(auto, using(slots::proofs::GuardLaws::test_when, slots::proofs::GuardLaws::test_unless, slots::proofs::GuardLaws::nothing_more))]
 fn admission_guards(v: Slots, o: Origin, session: u32, user: u32, at: Context) -> Guarded
     ensures { guarded result ≡ first_number (drop 3 (opening_on v o session user at).guards) }
 {
@@ -144,7 +144,7 @@ fn admission_guards(v: Slots, o: Origin, session: u32, user: u32, at: Context) -
     first(!entitled, Refusal::Forbidden, k)
 }
 
-#[tactic(auto, using(masks::proofs::Truth::each_at, masks::proofs::Truth::from_left, masks::proofs::Truth::left_each, origins::proofs::Laws::named_exact, slots::proofs::GuardLaws::test, slots::proofs::GuardLaws::test_unless, slots::proofs::GuardLaws::test_ranged))]
+#[tactic(auto, using(masks::proofs::Truth::each_at, masks::proofs::Truth::from_left, masks::proofs::Truth::left_each, origins::proofs::Laws::named_exact, slots::proofs::GuardLaws::test_when, slots::proofs::GuardLaws::test_unless, slots::proofs::GuardLaws::test_ranged))]
 fn open_guards(v: Slots, session: u32, user: u32, on: Named, at: Context) -> Guarded
     ensures { guarded result ≡ first_number (opening_on v (named_origin on) session user at).guards }
 {

@@ -18,10 +18,10 @@ use Rattle.slots.specs.Guards.{guarded, first_number, numbered, raised_of}
 
 -- ---- one test of a chain, and the tests after it
 
-pub test : (g : Guard) (gs : List Guard) (t : Bool) {q k n : ℕ} → q ≡ cond t n k → t ≡ applies g → n ≡ number g → k ≡ first_number gs
+pub test_when : (g : Guard) (gs : List Guard) (t : Bool) {q k n : ℕ} → q ≡ cond t n k → t ≡ applies g → n ≡ number g → k ≡ first_number gs
     → q ≡ first_number (g ∷ gs)
 unfolding first_number
-test g gs t {q} {k} {n} p s m e = p ∙ ap₂ (λ (b : Bool) (x : ℕ). cond b n x) s e ∙ ap (λ (x : ℕ). cond (applies g) x (first_number gs)) m
+test_when g gs t {q} {k} {n} p s m e = p ∙ ap₂ (λ (b : Bool) (x : ℕ). cond b n x) s e ∙ ap (λ (x : ℕ). cond (applies g) x (first_number gs)) m
 
 pub nothing_more : 0 ≡ first_number []
 unfolding first_number
@@ -30,7 +30,7 @@ nothing_more = refl
 -- a guard with `unless`, whose tests code joins from the left
 pub test_unless : (m : ℕ) (a : Bool) (bs : List Bool) (gs : List Guard) (t : Bool) {q k n : ℕ} → q ≡ cond t n k → t ≡ not (from_left (a ∷ bs)) → n ≡ m → k ≡ first_number gs
     → q ≡ first_number ((m unless (a ∷ bs)) ∷ gs)
-test_unless m a bs gs t p s e h = test (m unless (a ∷ bs)) gs t p (s ∙ ap not (left_each (a ∷ bs))) e h
+test_unless m a bs gs t p s e h = test_when (m unless (a ∷ bs)) gs t p (s ∙ ap not (left_each (a ∷ bs))) e h
 
 -- what comes after the test of the ranges need agree only where it passes
 pub test_ranged : (m : ℕ) (ts : List Bool) (gs : List Guard) (t : Bool) {q k n : ℕ} → q ≡ cond t n k → t ≡ not (each ts) → n ≡ m → (T (each ts) → k ≡ first_number gs)

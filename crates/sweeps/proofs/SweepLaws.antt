@@ -8,7 +8,7 @@ use native.Mathlib.Numerals.{add-one}
 use native.Mathlib.Omega.{arith}
 use lib.Bits.{bit_and}
 use lib.Dec.{eqb}
-use lib.ListN.{set, get_or, length, length-set}
+use lib.ListN.{set, length, length-set}
 use borrow.Author.Tests.{le-ltb}
 use Rattle.masks.specs.Tests.{count_below, rising}
 use Rattle.model.specs.declared.Origin.{Origin}

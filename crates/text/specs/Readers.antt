@@ -70,7 +70,7 @@ abbrev pub ShortTwo : List ℕ → TwoNumbers → Type 0
 ShortTwo s (Both a b n) = Both a b n ≡ two_in s
 ShortTwo s NotBoth = Unit {0}
 
--- the same as `with_number` and `thenNumber`, for two
+-- the same as `with_number` and `then_number`, for two
 abbrev pub with_two : {A : Type 0} → List (List ℕ) → (ℕ → ℕ → List (List ℕ) → Option A) → Option A
 with_two ws k = with_number ws (λ a rest. with_number rest (k a))
 

@@ -20,7 +20,7 @@ use Rattle.model.specs.Setters.{with_capabilities}
 use Rattle.model.specs.Sweeps.{mark_one}
 use Rattle.model.specs.Lineage.{in_lineage}
 use Rattle.model.specs.Rules.{well_formed, is_user, is_capability}
-use Rattle.model.specs.Rulings.{refused, Guard, ◌unless◌, ◌when◌, settle}
+use Rattle.model.specs.Rulings.{refused, Guard, ◌unless◌, settle}
 use Rattle.model.specs.Revocation.{revoke_guards, revoke_ruling}
 use Rattle.model.specs.Calls.{revoke, ruling, settled}
 use Rattle.model.specs.Requests.{refusal_number}

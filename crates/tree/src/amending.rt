@@ -1,4 +1,4 @@
-// amend, on a register that is known to be well_formed_lem.
+// amend, on a register that is known to be well-formed.
 ghost use Rattle.std.specs.Prelude.{◌≡◌, ◌-◌, T};
 ghost use Rattle.model.specs.Rules.{well_formed};
 ghost use Rattle.model.specs.Calls.{settled, amend};
@@ -49,7 +49,7 @@ fn amendment_of(change: Change, limit: u16) -> Amendment
     }
 }
 
-#[tactic(auto, using(slots::proofs::GuardLaws::test, slots::proofs::GuardLaws::test_unless, slots::proofs::GuardLaws::nothing_more))]
+#[tactic(auto, using(slots::proofs::GuardLaws::test_when, slots::proofs::GuardLaws::test_unless, slots::proofs::GuardLaws::nothing_more))]
 fn amend_guards(
     enrolled: u64,
     count: u16,

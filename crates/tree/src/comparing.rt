@@ -1,4 +1,4 @@
-// same, on a register that is known to be well_formed_lem.
+// same, on a register that is known to be well-formed.
 ghost use Rattle.std.specs.Prelude.{◌≡◌, T, eqb};
 ghost use mathlib.Core.List.{zip_with};
 ghost use Rattle.masks.specs.Tests.{each};

@@ -1,4 +1,4 @@
-// revoke, on a register that is known to be well_formed_lem.
+// revoke, on a register that is known to be well-formed.
 ghost use Rattle.std.specs.Prelude.{◌≡◌, T};
 ghost use Rattle.model.specs.Rules.{well_formed};
 ghost use Rattle.model.specs.Calls.{settled, revoke};
@@ -15,7 +15,7 @@ use slots::guards::{Guarded, first};
 use sweeps::Sweep;
 
 // `entitled` says whether the user created the capability or one on its lineage, `revoked` whether it is revoked already.
-#[tactic(auto, using(slots::proofs::GuardLaws::test, slots::proofs::GuardLaws::test_unless, slots::proofs::GuardLaws::nothing_more))]
+#[tactic(auto, using(slots::proofs::GuardLaws::test_when, slots::proofs::GuardLaws::test_unless, slots::proofs::GuardLaws::nothing_more))]
 fn revoke_guards(
     enrolled: u64,
     count: u16,

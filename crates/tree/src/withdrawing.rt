@@ -1,4 +1,4 @@
-// withdraw, on a register that is known to be well_formed_lem.
+// withdraw, on a register that is known to be well-formed.
 ghost use Rattle.std.specs.Prelude.{◌≡◌, T};
 ghost use Rattle.model.specs.Rules.{well_formed};
 ghost use Rattle.model.specs.Calls.{settled, withdraw};

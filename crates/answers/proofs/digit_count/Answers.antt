@@ -1,9 +1,4 @@
-use mathlib.Core.Path.{refl}
-use Prim.Native.Nat.{◌+◌, ◌-◌}
-use native.Mathlib.Omega.{arith}
-use borrow.Author.Rules.{rules}
-use Rattle.model.specs.Lines.{digit_count}
-use Rattle.answers.proofs.AnswerLaws.{Counted, count_done, count_turn}
+use Rattle.answers.proofs.AnswerLaws.{count_turn}
 use Rattle.answers.proofs.digit_count.Goals as goal
 
 pub loop-x-preserved : goal.loop-x-preserved

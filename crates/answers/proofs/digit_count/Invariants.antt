@@ -1,9 +1,6 @@
-use mathlib.Core.Path.{refl}
-use Prim.Native.Nat.{◌+◌, ◌-◌}
-use native.Mathlib.Omega.{arith}
-use borrow.Author.Rules.{rules}
+use Prim.Native.Nat.{◌+◌}
 use Rattle.model.specs.Lines.{digit_count}
-use Rattle.answers.proofs.AnswerLaws.{Counted, count_done, count_turn}
+use Rattle.answers.proofs.AnswerLaws.{Counted}
 use Rattle.answers.proofs.digit_count.Given as goal
 
 abbrev pub invariant-loop-x : goal.invariant-loop-x

@@ -1,6 +1,5 @@
-use Rattle.buffers.proofs.Digits.{DigitsFrom, digits_start, digits_step, digits_done}
+use Rattle.buffers.proofs.Digits.{DigitsFrom}
 use Rattle.answers.proofs.AnswerLaws.{decimal-digits}
-use borrow.Author.Rules.{rules}
 use Rattle.answers.proofs.put_digits.Given as goal
 
 abbrev pub invariant-loop-i : goal.invariant-loop-i

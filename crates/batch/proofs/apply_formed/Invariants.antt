@@ -1,8 +1,5 @@
-use borrow.Author.Rules.{rules}
-use mathlib.Core.Path.{refl}
 use Prim.Native.Nat.{◌-◌, ◌≤◌}
-use native.Mathlib.Omega.{arith}
-use Rattle.batch.proofs.Laws.{Playing, playing_start, playing_more, playing_done}
+use Rattle.batch.proofs.Laws.{Playing}
 use Rattle.batch.proofs.apply_formed.Given as goal
 
 abbrev pub invariant-loop-i : goal.invariant-loop-i

@@ -1,12 +1,7 @@
-use borrow.Author.Rules.{rules}
-use mathlib.Core.Path.{◌≡◌, refl, sym, ◌∙◌}
-use mathlib.Core.List.{◌++◌}
-use Prim.Native.Nat.{◌-◌, ◌≤◌}
-use native.Mathlib.Nat.{sub-zero}
+use mathlib.Core.Path.{refl, ◌∙◌}
 use native.Mathlib.Omega.{arith}
-use lib.ListN.{length, replicate, length-set}
-use Rattle.model.specs.Rulings.{value, refused}
-use Rattle.batch.proofs.Laws.{filled, filled_none, refused_more, refused_all}
+use lib.ListN.{length-set}
+use Rattle.batch.proofs.Laws.{refused_more}
 use Rattle.batch.proofs.refusals.Goals as goal
 
 pub loop-i-preserved : goal.loop-i-preserved

@@ -1,12 +1,9 @@
-use borrow.Author.Rules.{rules}
-use mathlib.Core.Path.{◌≡◌, refl, sym, ◌∙◌}
+use mathlib.Core.Path.{◌≡◌}
 use mathlib.Core.List.{◌++◌}
 use Prim.Native.Nat.{◌-◌, ◌≤◌}
-use native.Mathlib.Nat.{sub-zero}
-use native.Mathlib.Omega.{arith}
-use lib.ListN.{length, replicate, length-set}
+use lib.ListN.{length, replicate}
 use Rattle.model.specs.Rulings.{value, refused}
-use Rattle.batch.proofs.Laws.{filled, filled_none, refused_more, refused_all}
+use Rattle.batch.proofs.Laws.{filled}
 use Rattle.batch.proofs.refusals.Given as goal
 
 abbrev pub invariant-loop-i : goal.invariant-loop-i

@@ -1,4 +1,3 @@
-use borrow.Author.Rules.{rules}
 use mathlib.Core.Bool.{Bool, not, ◌&&◌}
 use mathlib.Core.Path.{refl, ap, ap₂, ◌∙◌}
 use Rattle.model.specs.declared.Capability.{Capability}
@@ -6,7 +5,7 @@ use Rattle.model.specs.State.{claims, below}
 use Rattle.model.specs.Delegation.{create_ranges}
 use Rattle.model.specs.Requests.{named_origin}
 use Rattle.origins.specs.Terms.{terms_in}
-use Rattle.slots.proofs.GuardLaws.{test, test_unless, test_ranged, nothing_more}
+use Rattle.slots.proofs.GuardLaws.{test_when, test_unless, test_ranged, nothing_more}
 use Rattle.creation.proofs.Laws.{made_exact}
 use Rattle.creation.proofs.create_guards.Goals as goal
 
@@ -20,7 +19,7 @@ returns c =
     let exact = c.made-new.ensures ∙ made_exact a.user a.origin a.at a.plan h in
     test_unless _ _ _ _ _ c.first-k-8.ensures (ap₂ (λ (x y : Bool). not (x && y)) c.member-maker.ensures (c.present_in-present.ensures v.parent)) refl
     (test_unless _ _ _ _ _ c.first-k-7.ensures (ap₂ (λ (x y : Bool). not (x && y)) c.member_in-entitled.ensures c.member-grants.ensures) refl
-    (test _ _ _ c.first-k-6.ensures refl refl
+    (test_when _ _ _ c.first-k-6.ensures refl refl
     (test_unless _ _ _ _ _ c.first-k-5.ensures (ap not (c.alive_in-alive.ensures v.role)) refl
     (test_unless _ _ _ _ _ c.first-k-4.ensures (ap not c.admits-admitted.ensures) refl
     (test_unless _ _ _ _ _ c.first-k-3.ensures (ap not (c.creates_in-creates.ensures v.role)) refl

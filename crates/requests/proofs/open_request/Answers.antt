@@ -1,8 +1,6 @@
-use borrow.Author.Rules.{rules}
 use Rattle.text.proofs.NumberLaws.{two_fits}
 use Rattle.requests.proofs.RequestLaws.{open_none, open_wrong, open_right}
 use Rattle.requests.proofs.open_request.Goals as goal
 
--- POOL: (λ c. search open_none) | (λ c. search two_fits) | (λ c. search two_fits) | (λ c. search open_wrong) | (λ c. search open_right)
 pub returns : goal.returns
 returns c = first_of ((search open_none), (search two_fits), (search two_fits), (search open_wrong), (search open_right))

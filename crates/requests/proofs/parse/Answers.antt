@@ -1,5 +1,4 @@
-use borrow.Author.Rules.{rules}
-use Rattle.requests.proofs.WordLaws.{word_within, line-asks}
+use Rattle.requests.proofs.WordLaws.{line-asks}
 use Rattle.requests.proofs.parse.Goals as goal
 
 pub returns : goal.returns

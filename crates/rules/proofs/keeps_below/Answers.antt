@@ -1,5 +1,4 @@
 use mathlib.Core.Path.{◌∙◌}
-use lib.ListN.{length-map}
 use borrow.Author.Rules.{rules}
 use Rattle.rules.proofs.Agreement.{register_agrees, blank_rest}
 use Rattle.rules.proofs.keeps_below.Goals as goal

@@ -1,4 +1,3 @@
-use borrow.Author.Rules.{rules}
 use mathlib.Core.Bool.{false}
 use Rattle.sessions.specs.Sessions.{check_answer}
 use Rattle.sessions.proofs.answer_check.Goals as goal

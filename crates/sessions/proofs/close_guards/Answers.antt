@@ -1,4 +1,3 @@
-use borrow.Author.Rules.{rules}
 use Rattle.slots.proofs.GuardLaws.{test_unless, nothing_more}
 use mathlib.Core.Path.{refl}
 use Rattle.sessions.proofs.close_guards.Goals as goal

@@ -1,4 +1,3 @@
-use borrow.Author.Rules.{rules}
 use mathlib.Core.Path.{refl}
 use Rattle.model.specs.Requests.{named_origin}
 use Rattle.model.proofs.Settling.{passed}

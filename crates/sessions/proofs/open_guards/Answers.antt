@@ -1,4 +1,3 @@
-use borrow.Author.Rules.{rules}
 use mathlib.Core.Bool.{Bool, not, ◌&&◌}
 use mathlib.Core.List.{List, [], ◌∷◌}
 use mathlib.Core.Path.{refl, ap, ap₂, ◌∙◌}
@@ -11,7 +10,7 @@ use Rattle.model.specs.Requests.{named_origin}
 use Rattle.origins.specs.Terms.{party_in}
 use Rattle.origins.proofs.Laws.{named_exact}
 use Rattle.slots.specs.Guards.{first_number}
-use Rattle.slots.proofs.GuardLaws.{test, test_unless, test_ranged}
+use Rattle.slots.proofs.GuardLaws.{test_when, test_unless, test_ranged}
 use Rattle.sessions.specs.Sessions.{opening_on}
 use Rattle.sessions.proofs.open_guards.Goals as goal
 
@@ -28,5 +27,5 @@ returns c =
     test_unless _ _ _ _ _ c.first-k-2.ensures
     (ap₂ (λ (x y : Bool). not (x && y)) c.member-known.ensures
     (c.present_in-present.ensures v.capability ∙ ap (λ (o : Origin). there v.count (party_in o v.role v.capability)) e)) refl
-    (test _ _ _ (search) refl refl
+    (test_when _ _ _ (search) refl refl
     (c.admission_guards-k.ensures ∙ ap (λ (o : Origin). first_number (drop 3 (opening_on v o a.session a.user a.at).guards)) e)))

@@ -1,13 +1,9 @@
-use borrow.Author.Rules.{rules}
-use mathlib.Core.Path.{◌≡◌, refl, ap, ◌∙◌}
+use mathlib.Core.Path.{◌≡◌}
 use Prim.Native.Nat.{◌≤◌, ◌-◌}
-use native.Mathlib.Omega.{arith}
-use lib.ListN.{length}
 use Rattle.masks.specs.Tests.{count_below, rising}
 use Rattle.model.specs.State.{blank_capability}
 use Rattle.model.specs.Setters.{with_capabilities}
 use Rattle.sweeps.specs.Sweeping.{sweep_one, newly_by}
-use Rattle.sweeps.proofs.SweepLaws.{sweep_more, sweep_done, count_more, one_le, newly_step, swept_step, after_amount}
 use Rattle.sweeps.proofs.sweep_all.Given as goal
 
 abbrev pub invariant-loop-i : goal.invariant-loop-i

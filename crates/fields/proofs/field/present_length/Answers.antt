@@ -1,12 +1,10 @@
 use mathlib.Core.Path.{◌≡◌}
-use mathlib.Core.List.{[]}
-use Prim.Native.Nat.{◌+◌, ◌-◌, ◌*◌, ◌%◌, ◌≤◌}
+use Prim.Native.Nat.{◌*◌, ◌%◌}
 use native.Mathlib.Omega.{arith}
-use lib.ListN.{length, drop, get_or, drop_of_length-le}
-use Rattle.model.specs.Fields.{width, present_length}
-use Rattle.fields.specs.Codes.{coding_of, codings}
+use lib.ListN.{get_or}
+use Rattle.model.specs.Fields.{width}
+use Rattle.fields.specs.Codes.{coding_of}
 use Rattle.fields.proofs.Codes.{narrow_at, length-step}
-use borrow.Author.Rules.{rules}
 use Rattle.fields.proofs.field.present_length.Goals as goal
 
 pub loop-i-preserved : goal.loop-i-preserved

@@ -1,9 +1,8 @@
 use mathlib.Core.Path.{◌≡◌}
-use mathlib.Core.List.{[]}
-use Prim.Native.Nat.{◌+◌, ◌-◌, ◌*◌, ◌%◌, ◌≤◌}
-use lib.ListN.{length, drop, get_or, drop_of_length-le}
-use Rattle.model.specs.Fields.{width, present_length}
-use Rattle.fields.specs.Codes.{coding_of, codings}
+use Prim.Native.Nat.{◌+◌, ◌-◌, ◌*◌, ◌≤◌}
+use lib.ListN.{length, drop}
+use Rattle.model.specs.Fields.{present_length}
+use Rattle.fields.specs.Codes.{codings}
 use Rattle.fields.proofs.field.present_length.Given as goal
 
 abbrev pub invariant-loop-i : goal.invariant-loop-i

@@ -1,9 +1,4 @@
-use Prim.Native.Nat.{◌-◌}
-use native.Mathlib.Omega.{arith}
-use lib.ListN.{length}
-use Rattle.fields.proofs.Putting.{each_field, FieldsTo, fields_turn, fields_step, fields_done}
-use borrow.Author.Rules.{rules}
-use Rattle.masks.proofs.Truth.{the}
+use Rattle.fields.proofs.Putting.{fields_step}
 use Rattle.fields.proofs.field.put_all.Goals as goal
 
 pub loop-i-preserved : goal.loop-i-preserved

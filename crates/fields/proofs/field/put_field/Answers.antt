@@ -7,7 +7,6 @@ use Rattle.model.specs.Fields.{Coding, written}
 use Rattle.fields.specs.Codes.{coding_of}
 use Rattle.fields.proofs.Numbers.{length-bytes, length-map}
 use Rattle.fields.proofs.Codes.{code_map, code_written}
-use borrow.Author.Rules.{rules}
 use Rattle.fields.proofs.field.put_field.Goals as goal
 
 pub put_map-requires : goal.put_map-requires

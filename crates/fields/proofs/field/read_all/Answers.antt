@@ -1,13 +1,6 @@
-use mathlib.Core.Path.{◌≡◌, sym, ◌∙◌}
-use mathlib.Core.List.{[], ◌++◌}
-use Prim.Native.Nat.{◌+◌, ◌-◌, ◌*◌, ◌≤◌}
 use native.Mathlib.Omega.{arith}
-use lib.ListN.{length, take, drop, length-set, drop_of_length-le}
-use Rattle.model.specs.Fields.{read_all}
-use Rattle.fields.specs.Codes.{codings}
-use Rattle.fields.proofs.Parts.{fill_done}
+use lib.ListN.{length-set}
 use Rattle.fields.proofs.Codes.{narrow_at, read_turn}
-use borrow.Author.Rules.{rules}
 use Rattle.fields.proofs.field.read_all.Goals as goal
 
 pub loop-i-preserved : goal.loop-i-preserved

@@ -1,13 +1,10 @@
-use mathlib.Core.Path.{◌≡◌, sym, ◌∙◌}
-use mathlib.Core.List.{[], ◌++◌}
-use Prim.Native.Nat.{◌+◌, ◌-◌, ◌*◌, ◌%◌, ◌≤◌}
+use mathlib.Core.Path.{◌≡◌}
+use Prim.Native.Nat.{◌*◌, ◌%◌}
 use native.Mathlib.Omega.{arith}
-use lib.ListN.{length, take, drop, get_or, length-set, drop_of_length-le}
-use Rattle.model.specs.Fields.{width, read_present, present_length}
-use Rattle.fields.specs.Codes.{coding_of, codings}
-use Rattle.fields.proofs.Parts.{fill_done}
+use lib.ListN.{get_or, length-set}
+use Rattle.model.specs.Fields.{width}
+use Rattle.fields.specs.Codes.{coding_of}
 use Rattle.fields.proofs.Codes.{narrow_at, read_present_turn, length-step}
-use borrow.Author.Rules.{rules}
 use Rattle.fields.proofs.field.read_present.Goals as goal
 
 pub loop-i-preserved : goal.loop-i-preserved

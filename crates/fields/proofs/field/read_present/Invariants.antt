@@ -1,9 +1,9 @@
-use mathlib.Core.Path.{◌≡◌, sym, ◌∙◌}
-use mathlib.Core.List.{[], ◌++◌}
-use Prim.Native.Nat.{◌+◌, ◌-◌, ◌*◌, ◌%◌, ◌≤◌}
-use lib.ListN.{length, take, drop, get_or, length-set, drop_of_length-le}
-use Rattle.model.specs.Fields.{width, read_present, present_length}
-use Rattle.fields.specs.Codes.{coding_of, codings}
+use mathlib.Core.Path.{◌≡◌}
+use mathlib.Core.List.{◌++◌}
+use Prim.Native.Nat.{◌+◌, ◌-◌, ◌*◌, ◌≤◌}
+use lib.ListN.{length, take, drop}
+use Rattle.model.specs.Fields.{read_present, present_length}
+use Rattle.fields.specs.Codes.{codings}
 use Rattle.fields.proofs.field.read_present.Given as goal
 
 abbrev pub invariant-loop-i : goal.invariant-loop-i

@@ -1,11 +1,7 @@
 use mathlib.Core.Path.{◌≡◌}
-use Prim.Native.Nat.{◌+◌, ◌-◌, ◌^◌, ◌≤◌, ◌<◌}
+use Prim.Native.Nat.{◌+◌, ◌-◌}
 use native.Mathlib.Omega.{arith}
-use lib.ListN.{drop}
-use borrow.Author.Rules.{rules}
-use Rattle.masks.specs.Bytes.{first_bytes, mask_of}
 use Rattle.fields.proofs.Parts.{byte_step, byte_fits, mask_turn}
-use native.Mathlib.Nat.{sub_self, sub-zero, add-zero}
 use Rattle.fields.proofs.number.get_map.Goals as goal
 
 pub overflow_mul-x : goal.overflow_mul-x

@@ -1,5 +1,4 @@
 use Rattle.buffers.proofs.Digits.{digits_step}
-use Rattle.fields.proofs.Parts.{byte_digits}
 use Rattle.fields.proofs.number.put.Goals as goal
 
 pub loop-i-preserved : goal.loop-i-preserved

@@ -1,12 +1,7 @@
-use mathlib.Core.Path.{◌≡◌, refl, sym, ◌∙◌}
-use Prim.Native.Nat.{◌-◌, ◌≤◌}
+use mathlib.Core.Path.{◌∙◌}
 use native.Mathlib.Omega.{arith}
-use lib.ListN.{length, length-set}
-use borrow.Author.Rules.{rules}
-use Rattle.buffers.proofs.Parts.{placed, placed_nil}
-use Rattle.masks.specs.Bytes.{front, map_bytes}
+use lib.ListN.{length-set}
 use Rattle.fields.proofs.Parts.{map_turn}
-use native.Mathlib.Nat.{sub-zero}
 use Rattle.fields.proofs.number.put_map.Goals as goal
 
 pub loop-i-preserved : goal.loop-i-preserved

@@ -1,7 +1,7 @@
 use Rattle.buffers.proofs.Parts.{placed}
-use mathlib.Core.Path.{◌≡◌, refl, sym, ◌∙◌}
+use mathlib.Core.Path.{◌≡◌}
 use Prim.Native.Nat.{◌-◌, ◌≤◌}
-use lib.ListN.{length, length-set}
+use lib.ListN.{length}
 use Rattle.masks.specs.Bytes.{front, map_bytes}
 use Rattle.fields.proofs.number.put_map.Given as goal
 

@@ -1,5 +1,5 @@
 use Rattle.origins.proofs.Filling.{Filled}
-use Prim.Native.Nat.{ℕ, ◌≤◌, ◌<◌, ◌-◌}
+use Prim.Native.Nat.{◌≤◌, ◌-◌}
 use Rattle.origins.proofs.authority.columns_of.Given as goal
 
 abbrev pub invariant-loop-i : goal.invariant-loop-i

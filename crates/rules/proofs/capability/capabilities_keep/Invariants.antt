@@ -1,20 +1,11 @@
 use mathlib.Core.Bool.{true}
-use mathlib.Core.Path.{◌≡◌, refl, sym, ap, ◌∙◌}
-use Prim.Native.Nat.{◌%◌, ◌≤◌, ◌-◌}
-use native.Mathlib.Omega.{arith}
-use lib.ListN.{get_or, length}
-use borrow.Author.Rules.{rules}
-use borrow.Author.Tests.{not-true, not-false}
+use mathlib.Core.Path.{◌≡◌}
+use Prim.Native.Nat.{◌≤◌, ◌-◌}
+use lib.ListN.{length}
 use Rattle.masks.specs.Tests.{all_below}
 use Rattle.model.specs.Rules.{place_keeps}
 use Rattle.model.specs.State.{capability_at}
-use Rattle.origins.specs.Numbers.{capability_held}
-use Rattle.origins.proofs.Laws.{held_placed}
 use Rattle.rules.specs.Columns.{tally}
-use Rattle.rules.proofs.Laws.{all_more, all_fails}
-use Rattle.rules.proofs.Counts.{tally_le, tally_more, tally_at, tally-length}
-use Rattle.rules.proofs.Agreement.{place_agrees}
-use Rattle.masks.proofs.Truth.{the}
 use Rattle.rules.proofs.capability.capabilities_keep.Given as goal
 
 abbrev pub invariant-loop-n : goal.invariant-loop-n

@@ -1,9 +1,9 @@
-use mathlib.Core.Path.{◌≡◌, refl, ap, ◌∙◌}
-use Prim.Native.Nat.{ℕ, ◌≤◌, ◌<◌, ◌-◌}
+use mathlib.Core.Path.{refl, ap, ◌∙◌}
+use Prim.Native.Nat.{ℕ}
 use native.Mathlib.Omega.{arith}
-use lib.ListN.{get_or, length, length-set, get_or-replicate}
+use lib.ListN.{get_or, length-set}
 use borrow.Author.Rules.{rules}
-use Rattle.rules.specs.Columns.{masked, in_domain}
+use Rattle.rules.specs.Columns.{masked}
 use Rattle.rules.proofs.Laws.{groups_more}
 use Rattle.rules.proofs.columns.domain_users.Goals as goal
 

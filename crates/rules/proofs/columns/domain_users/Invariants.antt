@@ -1,10 +1,7 @@
-use mathlib.Core.Path.{◌≡◌, refl, ap, ◌∙◌}
+use mathlib.Core.Path.{◌≡◌}
 use Prim.Native.Nat.{ℕ, ◌≤◌, ◌<◌, ◌-◌}
-use native.Mathlib.Omega.{arith}
-use lib.ListN.{get_or, length, length-set, get_or-replicate}
-use borrow.Author.Rules.{rules}
+use lib.ListN.{get_or, length}
 use Rattle.rules.specs.Columns.{masked, in_domain}
-use Rattle.rules.proofs.Laws.{groups_more}
 use Rattle.rules.proofs.columns.domain_users.Given as goal
 
 abbrev pub invariant-loop-i : goal.invariant-loop-i

@@ -1,10 +1,6 @@
-use mathlib.Core.Path.{◌≡◌, ap, ◌∙◌}
+use mathlib.Core.Path.{◌≡◌}
 use Prim.Native.Nat.{◌≤◌, ◌-◌}
-use native.Mathlib.Omega.{arith}
-use lib.Bits.{bit_or}
-use borrow.Author.Rules.{rules}
 use Rattle.rules.specs.Columns.{masked, is_founded}
-use Rattle.rules.proofs.Laws.{masked_more}
 use Rattle.rules.proofs.columns.founded_roles.Given as goal
 
 abbrev pub invariant-loop-i : goal.invariant-loop-i

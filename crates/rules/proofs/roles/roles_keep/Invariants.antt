@@ -1,13 +1,8 @@
-use mathlib.Core.Bool.{◌&&◌}
-use mathlib.Core.Path.{◌≡◌, ap, ◌∙◌}
+use mathlib.Core.Path.{◌≡◌}
 use Prim.Native.Nat.{◌≤◌, ◌-◌}
-use native.Mathlib.Omega.{arith}
-use borrow.Author.Rules.{rules}
 use Rattle.masks.specs.Tests.{all_below}
 use Rattle.model.specs.Rules.{role_keeps}
 use Rattle.model.specs.State.{role_at}
-use Rattle.rules.proofs.Laws.{all_more}
-use Rattle.rules.proofs.Agreement.{role_agrees}
 use Rattle.rules.proofs.roles.roles_keep.Given as goal
 
 abbrev pub invariant-loop-i : goal.invariant-loop-i

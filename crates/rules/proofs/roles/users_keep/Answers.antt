@@ -1,12 +1,8 @@
-use mathlib.Core.Bool.{◌&&◌}
-use mathlib.Core.Path.{◌≡◌, ap, ◌∙◌}
-use Prim.Native.Nat.{◌≤◌, ◌-◌}
+use mathlib.Core.Path.{ap, ◌∙◌}
 use native.Mathlib.Omega.{arith}
 use lib.ListN.{get_or}
-use borrow.Author.Rules.{rules}
 use Rattle.masks.specs.Tests.{all_below}
 use Rattle.model.specs.Rules.{user_keeps}
-use Rattle.rules.proofs.Laws.{all_more}
 use Rattle.rules.proofs.roles.users_keep.Goals as goal
 
 pub returns : goal.returns

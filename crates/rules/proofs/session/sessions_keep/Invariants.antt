@@ -1,14 +1,8 @@
-use mathlib.Core.Bool.{◌&&◌}
-use mathlib.Core.Path.{◌≡◌, ap, ◌∙◌}
-use Prim.Native.Nat.{◌%◌, ◌≤◌, ◌-◌}
-use native.Mathlib.Omega.{arith}
-use borrow.Author.Rules.{rules}
+use mathlib.Core.Path.{◌≡◌}
+use Prim.Native.Nat.{◌≤◌, ◌-◌}
 use Rattle.masks.specs.Tests.{all_below}
 use Rattle.model.specs.Rules.{session_keeps}
 use Rattle.model.specs.State.{session_at}
-use Rattle.origins.proofs.Laws.{held_placed}
-use Rattle.rules.proofs.Laws.{all_more}
-use Rattle.rules.proofs.Agreement.{session_agrees}
 use Rattle.rules.proofs.session.sessions_keep.Given as goal
 
 abbrev pub invariant-loop-i : goal.invariant-loop-i

@@ -1,6 +1,6 @@
-use mathlib.Core.Path.{◌≡◌, refl, sym}
+use mathlib.Core.Path.{◌≡◌}
 use Prim.Native.Nat.{◌-◌, ◌≤◌}
-use lib.ListN.{length, take, drop, length-set}
+use lib.ListN.{length, take, drop}
 use Rattle.model.specs.Lines.{numbers}
 use Rattle.text.specs.Parts.{after}
 use Rattle.text.specs.Readers.{prepend}

@@ -1,8 +1,7 @@
-use borrow.Author.Rules.{rules}
 use mathlib.Core.Path.{refl, ap}
 use mathlib.Core.Bool.{Bool, not, ◌&&◌}
 use lib.Dec.{ltb}
-use Rattle.slots.proofs.GuardLaws.{test, test_unless, nothing_more}
+use Rattle.slots.proofs.GuardLaws.{test_when, test_unless, nothing_more}
 use Rattle.tree.proofs.amending.amend_guards.Goals as goal
 
 pub returns : goal.returns
@@ -10,7 +9,7 @@ returns c =
     test_unless _ _ _ _ _ c.first.ensures refl refl
     (test_unless _ _ _ _ _ c.first-k-6.ensures (ap (λ (b : Bool). not (b && ltb c.args.n c.args.count)) c.member-known.ensures) refl
     (test_unless _ _ _ _ _ c.first-k-5.ensures refl refl
-    (test _ _ _ c.first-k-4.ensures refl refl
-    (test _ _ _ c.first-k-3.ensures refl refl
-    (test _ _ _ c.first-k-2.ensures refl refl
+    (test_when _ _ _ c.first-k-4.ensures refl refl
+    (test_when _ _ _ c.first-k-3.ensures refl refl
+    (test_when _ _ _ c.first-k-2.ensures refl refl
     (test_unless _ _ _ _ _ (search) refl refl nothing_more))))))

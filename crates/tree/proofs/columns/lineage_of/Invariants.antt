@@ -1,10 +1,7 @@
-use borrow.Author.Rules.{rules}
-use mathlib.Core.Path.{◌≡◌, refl}
+use mathlib.Core.Path.{◌≡◌}
 use Prim.Native.Nat.{ℕ, ◌≤◌, ◌<◌, ◌-◌}
-use native.Mathlib.Omega.{arith}
-use lib.ListN.{get_or, length, length-set}
+use lib.ListN.{get_or, length}
 use Rattle.model.specs.State.{capability_at, origin_at}
-use Rattle.masks.proofs.Bounded.{column_more}
 use Rattle.tree.specs.Tree.{origin_code}
 use Rattle.tree.proofs.columns.lineage_of.Given as goal
 

@@ -1,4 +1,3 @@
-use borrow.Author.Rules.{rules}
 use mathlib.Core.Path.{refl}
 use Rattle.tree.proofs.SameLaws.{alike_value, same_settled}
 use Rattle.tree.proofs.comparing.same_order.Goals as goal
