@@ -18,7 +18,7 @@ for file in crates/*/src/*.rt; do
     lib.rt) room="| \`$crate\` |" ;;
     *) room="| \`$crate\`, \`$name\` |" ;;
   esac
-  functions=$(sed -nE 's/^ *(pub )?(extern "C" )?fn ([a-z_0-9]+).*/\3/p' "$file" | sort -u)
+  functions=$(sed -nE 's/^ *(pub(\(crate\))? )?(extern "C" )?fn ([a-z_0-9]+).*/\4/p' "$file" | sort -u)
   [ -n "$functions" ] || continue
   row=$(grep -F "$room" docs/ARCHITECTURE.md)
   for function in $functions; do
