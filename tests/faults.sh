@@ -74,7 +74,7 @@ count $? 'output cut short: what was written is the start of the answers'
 
 # ---- pipes: one that nobody reads; those that would block, where the program waits
 
-piped() { # input|output|unread LINES
+piped() { # input|output|unread|ended LINES
   timeout 60 python3 - "$journal" "$1" "$2" "$work/out" "$work/err" << 'PYTHON'
 import os, subprocess, sys, time
 
@@ -82,11 +82,11 @@ journal, side, lines, out, err = sys.argv[1:]
 there, here = os.pipe() if side == "input" else reversed(os.pipe())
 os.set_blocking(there, False)
 with open(lines, "rb") as given, open(out, "wb") as got, open(err, "wb") as told:
-    if side == "unread":
+    if side in ("unread", "ended"):
         os.close(here)
     ends = (there, got) if side == "input" else (given, there)
-    # SIGPIPE, which would end the program, is ignored here and stays so there
-    program = subprocess.Popen([journal], stdin=ends[0], stdout=ends[1], stderr=told, restore_signals=False)
+    # SIGPIPE is ignored here and stays so there, but for 'ended', where the program begins with it as a shell starts one
+    program = subprocess.Popen([journal], stdin=ends[0], stdout=ends[1], stderr=told, restore_signals=side == "ended")
     os.close(there)
     if side == "input":
         text = given.read()
@@ -105,6 +105,8 @@ PYTHON
 if command -v python3 > /dev/null; then
   piped unread "$lines"; status=$?
   told 'a pipe that nobody reads' 'journal: output: Broken pipe'
+  piped ended "$lines"; status=$?
+  told 'a pipe that nobody reads, and SIGPIPE as a shell leaves it' 'journal: output: Broken pipe'
   piped input "$lines"; status=$?
   told 'input that would block' ''
   answered 'input that would block' "$answers"
@@ -128,8 +130,8 @@ if strace -o /dev/null true 2> /dev/null; then
   read=$(nth read 0)
   write=$(nth write 1)
   close=$(nth close 1)
-  [ -n "$read" ] && [ -n "$write" ] && [ -n "$close" ]
-  count $? 'the program reads, writes and closes its output by these calls, so that each can be made to fail'
+  [ -n "$read" ] && [ -n "$write" ]
+  count $? 'the program reads and writes by these calls, so that each can be made to fail'
   injected "read:error=EINTR:when=$read"; status=$?
   told 'interrupted read' ''
   answered 'interrupted read' "$answers"
@@ -139,8 +141,15 @@ if strace -o /dev/null true 2> /dev/null; then
   injected "write:error=EINTR:when=$write"; status=$?
   told 'interrupted write' ''
   answered 'interrupted write' "$answers"
-  injected "close:error=EDQUOT:when=$close"; status=$?
-  told 'output that fails as it is closed' 'journal: output: Disk quota exceeded'
+  injected "write:retval=0:when=$write"; status=$?
+  told 'a write that takes no byte' 'journal: output: write zero'
+  answered 'a write that takes no byte' /dev/null
+  if [ -n "$close" ]; then
+    injected "close:error=EDQUOT:when=$close"; status=$?
+    told 'output that fails as it is closed' 'journal: output: Disk quota exceeded'
+  else
+    echo 'not run: output that fails as it is closed, since the program closes nothing itself'
+  fi
 else
   echo 'not run: calls that fail on the way, as strace is missing or may not trace'
 fi
