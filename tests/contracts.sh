@@ -48,7 +48,7 @@ for crate in $(sed -nE 's/^([a-z_0-9]+)( [^:]*)?:.*/\1/p' crates.txt); do
 done > "$now"
 
 # the parts of the promise: a statement that stands on the part's own line is named
-for file in crates/promise/specs/{Promise,Contracts}.antt; do
+for file in crates/promise/specs/{Promise,PublicContracts}.antt; do
   sed -nE "s/^ +pub ([a-z_]+) : ([^ ({]*).*/promise\t$(basename "$file" .antt)\t\1\t\2\tpart/p" "$file" | sed 's/\t\t/\t-\t/'
 done >> "$now"
 if [ "${1:-}" = --write ]; then

@@ -38,7 +38,7 @@ fn put_founded(s: &mut [u8], roles: [Role; 32]) -> usize
 }
 
 // "pass count (2); the passes"; the bytes written.
-#[tactic(auto, using(buffers::proofs::Parts::length_tail, crate::proofs::Whole::counted_size, crate::proofs::Whole::counted_written))]
+#[tactic(auto, using(crate::proofs::Whole::counted_size, crate::proofs::Whole::counted_written))]
 fn put_counted(s: &mut [u8], count: usize, capabilities: [Capability; 256]) -> usize
     requires { (count ≤ 256) × (length (counted_capabilities count capabilities) ≤ length s.old) }
     ensures { (result ≡ length (counted_capabilities count capabilities)) × (s.new ≡ front (counted_capabilities count capabilities) s.old) }
@@ -49,7 +49,6 @@ fn put_counted(s: &mut [u8], count: usize, capabilities: [Capability; 256]) -> u
 }
 
 // "map of open sessions (8), each with .."; the bytes written.
-#[tactic(auto, using(buffers::proofs::Parts::length_tail, crate::proofs::Whole::mapped_room))]
 fn put_active(s: &mut [u8], sessions: [Session; 64]) -> usize
     requires { length (mapped 8 write_session (active_sessions sessions) sessions) ≤ length s.old }
     ensures { (result ≡ length (mapped 8 write_session (active_sessions sessions) sessions)) × (s.new ≡ front (mapped 8 write_session (active_sessions sessions) sessions) s.old) }

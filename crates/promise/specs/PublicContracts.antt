@@ -115,7 +115,9 @@ module _ {M : Type 1} {𝓤 : Ura M} (𝓛 : Logic 𝓤) (mem : Memory → SProp
     pub load : image-proofs.load.Statement.statement M
     pub load_says : (κs : _) (r : _) (s : _)
         → Says (image-contracts.load.clauses 𝓛 mem runs κs (r, (s, tt))) (λ q end. effect_of q ≡ load_effect r s.now)
-    -- the journal program
+    -- the journal program, over any handle that reads, prints and tells faults
     pub play : terminal-proofs.play.Statement.statement M
-    pub play_says : (κs : _) (rt : _) (input : _) (out : _)
-        → Says (terminal-contracts.play.clauses 𝓛 mem runs κs (rt, (input, (out, tt)))) (λ q end. Plays end.1.0.now out.now end.1.1.0.now q)
+    pub play_says : (handle : _) (reader : _) (takes : _) (taker : _) (buffers : _) (buffer : _) (reads : _) (read : _) (prints : _) (printer : _) (tells : _) (teller : _) (dropper : _)
+        → (κs : _) (rt : _) (input : _) (out : _)
+        → Says (terminal-contracts.play.clauses handle reader takes taker buffers buffer reads read prints printer tells teller dropper 𝓛 mem runs κs (rt, (input, (out, tt))))
+        (λ q end. Plays end.1.0.now out.now end.1.1.0.now q)

@@ -70,8 +70,8 @@ overflow_add-to-in-Check c =
     let more : l.at + n < length a.input.now = omega (arith, line_whole a.input.now l.at n c.count_before.ensures) in
     let kept = true→T _ (sym l.invariant.1 ∙ c.in-Check.ensures.0) in
     let effect =
-        line_done l.r _ _ _ c.in-Check.ensures.1 kept
-        (check_done l.r l.columns _ _ _ _ _ _ kept l.invariant.2 (c.role_held.ensures, c.capability_held.ensures) (omega (arith, c.capability_held)) c.answer_check-answer.ensures) in
+    line_done l.r _ _ _ c.in-Check.ensures.1 kept
+    (check_done l.r l.columns _ _ _ _ _ _ kept l.invariant.2 (c.role_held.ensures, c.capability_held.ensures) (omega (arith, c.capability_held)) c.answer_check-answer.ensures) in
     omega (arith, played_fits a.start a.input.now a.out.now l.r l.out l.at l.to l.invariant.0 n c.count_before.ensures more _ _ effect _ _ c.print-n-in-Check.ensures)
 
 pub loop-at-preserved-in-Check : goal.loop-at-preserved-in-Check
@@ -82,8 +82,8 @@ loop-at-preserved-in-Check c =
     let more : l.at + n < length a.input.now = omega (arith, line_whole a.input.now l.at n c.count_before.ensures) in
     let kept = true→T _ (sym l.invariant.1 ∙ c.in-Check.ensures.0) in
     let effect =
-        line_done l.r _ _ _ c.in-Check.ensures.1 kept
-        (check_done l.r l.columns _ _ _ _ _ _ kept l.invariant.2 (c.role_held.ensures, c.capability_held.ensures) (omega (arith, c.capability_held)) c.answer_check-answer.ensures) in
+    line_done l.r _ _ _ c.in-Check.ensures.1 kept
+    (check_done l.r l.columns _ _ _ _ _ _ kept l.invariant.2 (c.role_held.ensures, c.capability_held.ensures) (omega (arith, c.capability_held)) c.answer_check-answer.ensures) in
     let w = played a.start a.input.now a.out.now l.r l.out l.at l.to l.invariant.0 n c.count_before.ensures more _ _ effect _ _ c.print-n-in-Check.ensures l.invariant.1 (search) in
     (w.0, w.1, l.invariant.2, l.invariant.3)
 
@@ -145,16 +145,16 @@ overflow_add-to-in-One c =
     let more : l.at + n < length a.input.now = omega (arith, line_whole a.input.now l.at n c.count_before.ensures) in
     let kept = true→T _ (sym l.invariant.1 ∙ c.in-One.ensures.0) in
     let effect =
-        line_done l.r _ _ _ c.in-One.ensures.1 kept
-        (commit l.r c.names_of-m.result _ _ _ _ _ l.columns c.in-One.q _ c.decide-d.result kept l.invariant.2 c.names_of-m.ensures
-        (record {
-          user = c.user_at-un.ensures.0;
-          session = c.session_at-sn.ensures.0;
-          capability = c.capability_at-cn.ensures.0;
-          role = c.role_at-rn.ensures.0;
-          parent = c.parent_at-pn.ensures.0;
-        })
-        c.seen-v.ensures c.decide-d.ensures) in
+    line_done l.r _ _ _ c.in-One.ensures.1 kept
+    (commit l.r c.names_of-m.result _ _ _ _ _ l.columns c.in-One.q _ c.decide-d.result kept l.invariant.2 c.names_of-m.ensures
+    (record {
+      user = c.user_at-un.ensures.0;
+      session = c.session_at-sn.ensures.0;
+      capability = c.capability_at-cn.ensures.0;
+      role = c.role_at-rn.ensures.0;
+      parent = c.parent_at-pn.ensures.0;
+    })
+    c.seen-v.ensures c.decide-d.ensures) in
     omega (arith, played_fits a.start a.input.now a.out.now l.r l.out l.at l.to l.invariant.0 n c.count_before.ensures more _ _ effect _ _ c.print-n-in-One.ensures)
 
 pub loop-at-preserved-then-changes_role : goal.loop-at-preserved-then-changes_role
@@ -166,16 +166,16 @@ loop-at-preserved-then-changes_role c =
     let more : l.at + n < length a.input.now = omega (arith, line_whole a.input.now l.at n c.count_before.ensures) in
     let kept = true→T _ (sym l.invariant.1 ∙ c.in-One.ensures.0) in
     let effect =
-        line_done l.r _ _ _ c.in-One.ensures.1 kept
-        (commit l.r c.names_of-m.result _ _ _ _ _ l.columns c.in-One.q _ c.decide-d.result kept l.invariant.2 c.names_of-m.ensures
-        (record {
-          user = c.user_at-un.ensures.0;
-          session = c.session_at-sn.ensures.0;
-          capability = c.capability_at-cn.ensures.0;
-          role = c.role_at-rn.ensures.0;
-          parent = c.parent_at-pn.ensures.0;
-        })
-        c.seen-v.ensures c.decide-d.ensures) in
+    line_done l.r _ _ _ c.in-One.ensures.1 kept
+    (commit l.r c.names_of-m.result _ _ _ _ _ l.columns c.in-One.q _ c.decide-d.result kept l.invariant.2 c.names_of-m.ensures
+    (record {
+      user = c.user_at-un.ensures.0;
+      session = c.session_at-sn.ensures.0;
+      capability = c.capability_at-cn.ensures.0;
+      role = c.role_at-rn.ensures.0;
+      parent = c.parent_at-pn.ensures.0;
+    })
+    c.seen-v.ensures c.decide-d.ensures) in
     let w = played a.start a.input.now a.out.now l.r l.out l.at l.to l.invariant.0 n c.count_before.ensures more _ _ effect _ _ c.print-n-in-One.ensures l.invariant.1 (search) in
     (w.0, w.1, c.columns_of-columns-then-changes_role.ensures, search rules)
 
@@ -189,16 +189,16 @@ loop-at-preserved c =
     let more : l.at + n < length a.input.now = omega (arith, line_whole a.input.now l.at n c.count_before.ensures) in
     let kept = true→T _ (sym l.invariant.1 ∙ c.in-One.ensures.0) in
     let effect =
-        line_done l.r _ _ _ c.in-One.ensures.1 kept
-        (commit l.r c.names_of-m.result _ _ _ _ _ l.columns c.in-One.q _ c.decide-d.result kept l.invariant.2 c.names_of-m.ensures
-        (record {
-          user = c.user_at-un.ensures.0;
-          session = c.session_at-sn.ensures.0;
-          capability = c.capability_at-cn.ensures.0;
-          role = c.role_at-rn.ensures.0;
-          parent = c.parent_at-pn.ensures.0;
-        })
-        c.seen-v.ensures c.decide-d.ensures) in
+    line_done l.r _ _ _ c.in-One.ensures.1 kept
+    (commit l.r c.names_of-m.result _ _ _ _ _ l.columns c.in-One.q _ c.decide-d.result kept l.invariant.2 c.names_of-m.ensures
+    (record {
+      user = c.user_at-un.ensures.0;
+      session = c.session_at-sn.ensures.0;
+      capability = c.capability_at-cn.ensures.0;
+      role = c.role_at-rn.ensures.0;
+      parent = c.parent_at-pn.ensures.0;
+    })
+    c.seen-v.ensures c.decide-d.ensures) in
     let w = played a.start a.input.now a.out.now l.r l.out l.at l.to l.invariant.0 n c.count_before.ensures more _ _ effect _ _ c.print-n-in-One.ensures l.invariant.1 (search) in
     let same = ap (λ (m : Names). changes_role m.follow) (sym c.names_of-m.ensures) ∙ sym c.changes_role.ensures ∙ c.if-changes_role.false in
     let e = c.decide-d.ensures ∙ ap (λ (v : Slots). decide_of v l.columns c.in-One.q) c.seen-v.ensures in
