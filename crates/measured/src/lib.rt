@@ -11,9 +11,8 @@ use player::journal;
 
 // Plays the lines on the register whose image is given and prints the answers into the output; it returns how many bytes they take.
 // Where the bytes are no image, nothing is written, and it returns 0.
-#[unsafe(no_mangle)]
 #[tactic(auto, using(crate::proofs::Laws::not_played, crate::proofs::Laws::is_played))]
-pub extern "C" fn measured_play(image: &[u8], lines: &[u8], out: &mut [u8]) -> usize
+pub fn measured_play(image: &[u8], lines: &[u8], out: &mut [u8]) -> usize
     ensures { (result ≡ played_length image.now lines.now out.old) × (out.new ≡ played_buffer image.now lines.now out.old) }
 {
     let none = fresh();
