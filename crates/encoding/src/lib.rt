@@ -60,7 +60,7 @@ fn put_active(s: &mut [u8], sessions: [Session; 64]) -> usize
 }
 
 // Writes a register's image at the front of a buffer that has room for it; the bytes written.
-#[tactic(auto, using(buffers::proofs::Parts::length_tail, fields::proofs::Writing::writing_first, fields::proofs::Writing::writing_done, fields::proofs::Putting::turn, crate::proofs::Whole::users_bytes, crate::proofs::Whole::roles_bytes, crate::proofs::Whole::capabilities_bytes, crate::proofs::Whole::sessions_bytes, crate::proofs::Whole::sections_size_lem, crate::proofs::Whole::encode_sections, crate::proofs::Whole::sections_size))]
+#[tactic(auto, using(crate::proofs::Whole::sections_size))]
 pub fn put_image(s: &mut [u8], r: Register) -> usize
     requires { (r.count ≤ 256) × (length (encode r) ≤ length s.old) }
     ensures { (result ≡ length (encode r)) × (s.new ≡ front (encode r) s.old) }

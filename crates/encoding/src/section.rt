@@ -9,7 +9,6 @@ use model::{Capability, Role, Session};
 use records::record::{bit_of, put_capability, put_role, put_session};
 
 // The mask of the founded roles.
-#[tactic(auto, using(crate::proofs::Marking::MaskFrom, crate::proofs::Marking::mask_start, crate::proofs::Marking::mask_fits, crate::proofs::Marking::mask_step, crate::proofs::Marking::mask_small, crate::proofs::Marking::mask_done), unfolding(model::specs::Image::founded_roles))]
 pub fn founded_mask(roles: [Role; 32]) -> u64
     ensures { (result ≡ founded_roles roles) × (result < 4294967296) }
 {
@@ -24,7 +23,7 @@ pub fn founded_mask(roles: [Role; 32]) -> u64
 }
 
 // The mask of the open sessions.
-#[tactic(auto, using(crate::proofs::Marking::MaskFrom, crate::proofs::Marking::mask_start, crate::proofs::Marking::mask_fits, crate::proofs::Marking::mask_step, crate::proofs::Marking::mask_done), unfolding(model::specs::Image::active_sessions))]
+#[tactic(auto, unfolding(model::specs::Image::active_sessions))]
 pub fn active_mask(sessions: [Session; 64]) -> u64
     ensures { result ≡ active_sessions sessions }
 {
@@ -73,7 +72,6 @@ fn put_session_if(s: &mut [u8], bit: u64, x: Session) -> usize
 }
 
 // Writes "a domain byte each" for the users of a mask; the bytes written.
-#[tactic(auto, using(crate::proofs::Putting::ItemsTo, crate::proofs::Putting::items_turn, crate::proofs::Putting::items_step, crate::proofs::Putting::items_passed))]
 pub fn put_domains(s: &mut [u8], domains: [u8; 64], mask: u64) -> usize
     requires { length (write_chosen (bytes_of 1) mask domains) ≤ length s.old }
     ensures { (result ≡ length (write_chosen (bytes_of 1) mask domains)) × (s.new ≡ front (write_chosen (bytes_of 1) mask domains) s.old) }
@@ -91,7 +89,6 @@ pub fn put_domains(s: &mut [u8], domains: [u8; 64], mask: u64) -> usize
 }
 
 // Writes the roles of a mask; the bytes written.
-#[tactic(auto, using(crate::proofs::Putting::ItemsTo, crate::proofs::Putting::items_turn, crate::proofs::Putting::items_step, crate::proofs::Putting::items_passed))]
 pub fn put_roles(s: &mut [u8], roles: [Role; 32], mask: u64) -> usize
     requires { length (write_chosen write_role mask roles) ≤ length s.old }
     ensures { (result ≡ length (write_chosen write_role mask roles)) × (s.new ≡ front (write_chosen write_role mask roles) s.old) }
@@ -109,7 +106,6 @@ pub fn put_roles(s: &mut [u8], roles: [Role; 32], mask: u64) -> usize
 }
 
 // Writes the sessions of a mask; the bytes written.
-#[tactic(auto, using(crate::proofs::Putting::ItemsTo, crate::proofs::Putting::items_turn, crate::proofs::Putting::items_step, crate::proofs::Putting::items_passed))]
 pub fn put_sessions(s: &mut [u8], sessions: [Session; 64], mask: u64) -> usize
     requires { length (write_chosen write_session mask sessions) ≤ length s.old }
     ensures { (result ≡ length (write_chosen write_session mask sessions)) × (s.new ≡ front (write_chosen write_session mask sessions) s.old) }
@@ -127,7 +123,6 @@ pub fn put_sessions(s: &mut [u8], sessions: [Session; 64], mask: u64) -> usize
 }
 
 // Writes the first count capabilities; the bytes written.
-#[tactic(auto, using(crate::proofs::Putting::CapabilitiesTo, crate::proofs::Putting::capabilities_start, crate::proofs::Putting::capabilities_turn, crate::proofs::Putting::capabilities_next, crate::proofs::Putting::capabilities_passed))]
 pub fn put_capabilities(s: &mut [u8], capabilities: [Capability; 256], count: usize) -> usize
     requires { (count ≤ 256) × (length (write_capabilities (take count capabilities)) ≤ length s.old) }
     ensures { (result ≡ length (write_capabilities (take count capabilities))) × (s.new ≡ front (write_capabilities (take count capabilities)) s.old) }
