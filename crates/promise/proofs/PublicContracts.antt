@@ -65,5 +65,5 @@ contracts 𝓛 mem runs =
       load = image-proofs.load.Met.met;
       load_says = λ κs r s. refl;
       play = terminal-proofs.play.Met.met;
-      play_says = λ handle reader takes taker buffers buffer reads read prints printer tells teller dropper κs rt input out. refl;
+      play_says = λ κs rt input out. refl;
     }

@@ -6,8 +6,7 @@ use prog.Memory.{Memory}
 use prog.Routine.{Routine}
 use types.Logic.{Logic}
 use base.Logic.{SProp}
-use contract.Lifetimes.{Lfts, lft_at}
-use contract.BorrowLft.{◌⊑◌}
+use contract.Lifetimes.{Lfts}
 use contract.Notation.{connectives}
 use contract.Monad.{Fun}
 use denote.Triple.Clauses.{Ended, AtExit, ClausesAt}
@@ -38,14 +37,10 @@ use Rattle.terminal.proofs as terminal-proofs
 
 -- in any world that the logic's theorems are about
 module _ {M : Type 1} {𝓤 : Ura M} (𝓛 : Logic 𝓤) (mem : Memory → SProp 𝓤) (runs : Routine → Fun 𝓤) where
-  open connectives 𝓤 use {⌜◌⌝, ◌∗◌, ⊤ₛ}
+  open connectives 𝓤 use {⌜◌⌝, ⊤ₛ}
 
   abbrev pub Says : {T : Ended} {κs : Lfts T.signature.lifetimes} → ClausesAt 𝓤 T κs → (Res T.signature κs → AtExit T κs → Type 0) → Type 2
   Says contract P = contract ≡ record { ghost = Unit {0}; requires = λ g. ⊤ₛ; ensures = λ g q end. ⌜ P q end ⌝ }
-
-  -- of a function over type parameters: `lives` is all that it asks, that what these borrow outlives the call
-  abbrev pub SaysWhere : {T : Ended} {κs : Lfts T.signature.lifetimes} → ClausesAt 𝓤 T κs → SProp 𝓤 → (Res T.signature κs → AtExit T κs → Type 0) → Type 2
-  SaysWhere contract lives P = contract ≡ record { ghost = Unit {0}; requires = λ g. lives; ensures = λ g q end. ⌜ P q end ⌝ }
 
   pub record Contracts : Type 2 where
     pub enrol : calls-proofs.enrol.Statement.statement M
@@ -120,9 +115,7 @@ module _ {M : Type 1} {𝓤 : Ura M} (𝓛 : Logic 𝓤) (mem : Memory → SProp
     pub load : image-proofs.load.Statement.statement M
     pub load_says : (κs : _) (r : _) (s : _)
         → Says (image-contracts.load.clauses 𝓛 mem runs κs (r, (s, tt))) (λ q end. effect_of q ≡ load_effect r s.now)
-    -- the journal program, over any handle that reads, prints and tells faults
+    -- the journal program
     pub play : terminal-proofs.play.Statement.statement M
-    pub play_says : (handle : _) (reader : _) (takes : _) (taker : _) (buffers : _) (buffer : _) (reads : _) (read : _) (prints : _) (printer : _) (tells : _) (teller : _) (dropper : _)
-        → (κs : _) (rt : _) (input : _) (out : _)
-        → SaysWhere (terminal-contracts.play.clauses handle reader takes taker buffers buffer reads read prints printer tells teller dropper 𝓛 mem runs κs (rt, (input, (out, tt))))
-        (⌜ lft_at 5 3 tt κs ⊑ handle.lives ⌝ ∗ (⌜ lft_at 5 4 tt κs ⊑ reader.lives ⌝ ∗ ⊤ₛ)) (λ q end. Plays end.1.0.now out.now end.1.1.0.now q)
+    pub play_says : (κs : _) (rt : _) (input : _) (out : _)
+        → Says (terminal-contracts.play.clauses 𝓛 mem runs κs (rt, (input, (out, tt)))) (λ q end. Plays end.1.0.now out.now end.1.1.0.now q)

@@ -112,11 +112,7 @@ pub fn play_streams<R: Read, W: Write, E: Eprint>(
 }
 
 // Plays standard input, and answers on standard output.
-pub fn play<R: Input + Print + Eprint>(
-    rt: &R,
-    input: &mut [u8; 32769],
-    out: &mut [u8; 163840],
-) -> Played
+pub fn play(rt: &HostRuntime, input: &mut [u8; 32769], out: &mut [u8; 163840]) -> Played
     ensures { Plays input.new out.old out.new result }
 {
     play_streams(rt, &mut rt.reader(), &mut io::writer(rt), input, out)
