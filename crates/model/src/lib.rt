@@ -6,7 +6,7 @@ ghost use Rattle.model.specs.State.{blank_role, blank_capability, blank_session,
 ghost use Rattle.model.specs.Requests.{refusal_number};
 
 // What a capability is derived from, and what a session is opened on: a role or a capability, by number.
-#[derive(Clone, Copy)]
+#[derive(Clone, Copy, PartialEq, Eq)]
 pub enum Origin {
     Role(u8),
     Capability(u8),
@@ -65,8 +65,8 @@ pub struct Register {
     pub sessions: [Session; 64],
 }
 
-// One case for each refusal; `refusal_number` gives the document's number.
-#[derive(Clone, Copy)]
+// Why a call is refused. `u32::from` gives the number.
+#[derive(Clone, Copy, PartialEq, Eq)]
 pub enum Refusal {
     Malformed,
     Range,
@@ -86,11 +86,8 @@ pub enum Refusal {
     Room,
 }
 
-#[derive(Clone, Copy)]
-pub enum Answer {
-    Value(u32),
-    Refused(Refusal),
-}
+// The value of a call that is accepted, or why it is refused.
+pub type Answer = Result<u32, Refusal>;
 
 #[derive(Clone, Copy)]
 pub struct Reply {
@@ -165,34 +162,29 @@ pub enum Request {
     Tree(TreeRequest),
 }
 
-// The parser's answer: a request, or none.
-#[derive(Clone, Copy)]
-pub enum Parsed {
-    Line(Request),
-    NoRequest,
-}
+// The number of a refusal, as answers print it.
+impl From<Refusal> for u32 {
+    ghost from_gives = { λ why n. n ≡ refusal_number why };
 
-// The document's number of a refusal.
-pub fn refusal_number(why: Refusal) -> u32
-    ensures { result ≡ refusal_number why }
-{
-    match why {
-        Refusal::Malformed => 1,
-        Refusal::Range => 2,
-        Refusal::Missing => 3,
-        Refusal::Unchanged => 4,
-        Refusal::Domain => 5,
-        Refusal::Forbidden => 6,
-        Refusal::Revoked => 7,
-        Refusal::Expired => 8,
-        Refusal::Context => 9,
-        Refusal::Exhausted => 10,
-        Refusal::Exceeds => 11,
-        Refusal::Full => 12,
-        Refusal::Past => 13,
-        Refusal::Image => 14,
-        Refusal::Broken => 15,
-        Refusal::Room => 16,
+    fn from(why: Refusal) -> u32 {
+        match why {
+            Refusal::Malformed => 1,
+            Refusal::Range => 2,
+            Refusal::Missing => 3,
+            Refusal::Unchanged => 4,
+            Refusal::Domain => 5,
+            Refusal::Forbidden => 6,
+            Refusal::Revoked => 7,
+            Refusal::Expired => 8,
+            Refusal::Context => 9,
+            Refusal::Exhausted => 10,
+            Refusal::Exceeds => 11,
+            Refusal::Full => 12,
+            Refusal::Past => 13,
+            Refusal::Image => 14,
+            Refusal::Broken => 15,
+            Refusal::Room => 16,
+        }
     }
 }
 
