@@ -7,7 +7,7 @@ ghost use Rattle.model.specs.Requests.{effect_of};
 ghost use Rattle.model.specs.Setters.{with_revoked, with_use_limit, with_permissions};
 ghost use Rattle.sweeps.specs.Sweeping.{one_if, swept_one, roles_after, sweep_value, swept_by};
 
-use model::{Answer, Capability, Register, Reply, Role};
+use model::{Capability, Register, Reply, Role};
 use origins::authority::{columns_of, granted_by};
 use origins::numbers::capability_held;
 use origins::terms::bare_allowance;
@@ -138,7 +138,7 @@ pub fn sweep_all(r: Register, s: Sweep) -> Reply
     }
     let value = sweep_value(s, marks);
     Reply {
-        answer: Answer::Value(value),
+        answer: Ok(value),
         register: next,
     }
 }
