@@ -7,7 +7,7 @@ ghost use Rattle.model.specs.Lines.{digit_count, digits_of, answer_line, printed
 ghost use Rattle.model.specs.Requests.{outcome_of};
 ghost use Rattle.answers.specs.Writing.{printed_into, filled};
 
-use model::{Answer, refusal_number};
+use model::Answer;
 
 // How many decimal digits n has.
 #[tactic(auto, using(crate::proofs::AnswerLaws::Counted, crate::proofs::AnswerLaws::count_done, crate::proofs::AnswerLaws::count_turn))]
@@ -79,7 +79,7 @@ pub fn print(buffer: &mut [u8], answer: Answer) -> usize
     ensures { (result ≡ filled (printed (outcome_of answer)) buffer.old) × (buffer.new ≡ printed_into (printed (outcome_of answer)) buffer.old) }
 {
     match answer {
-        Answer::Value(v) => put_line(buffer, b'o', b'k', v),
-        Answer::Refused(why) => put_line(buffer, b'n', b'o', refusal_number(why)),
+        Ok(v) => put_line(buffer, b'o', b'k', v),
+        Err(why) => put_line(buffer, b'n', b'o', u32::from(why)),
     }
 }

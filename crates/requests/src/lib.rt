@@ -10,7 +10,7 @@ ghost use Rattle.requests.specs.Spelling.{asks, arity as arityOf, one_call, two_
 ghost use Rattle.requests.specs.declared.words.Word.TheVariants.{Numbers as onlyNumbers};
 
 use crate::words::{One, Plain, Three, Two, Word, word_of};
-use model::{Context, LocalRequest, Parsed, Plan, Request, TreeRequest};
+use model::{Context, LocalRequest, Plan, Request, TreeRequest};
 use text::arguments::{Changing, last_change, read_target};
 use text::numbers::{Number, TwoNumbers, read_number, read_numbers, read_two};
 use text::parts::first_word;
@@ -92,17 +92,17 @@ fn plain_of(w: Plain, v: [u32; 12]) -> Request
 
 // A word that only numbers follow.
 #[tactic(auto, using(crate::proofs::WordLaws::arity_small, crate::proofs::WordLaws::plain_wrong, crate::proofs::WordLaws::plain_right))]
-fn plain_request(w: Plain, s: &[u8]) -> Parsed
+fn plain_request(w: Plain, s: &[u8]) -> Option<Request>
     ensures { parsed_call result ≡ asks (onlyNumbers w) (after 32 s.now) }
 {
     let k = arity(w);
     let read = read_numbers(s, k);
     let ok = read.ok;
     if !ok {
-        return Parsed::NoRequest;
+        return None;
     }
     let v = read.v;
-    Parsed::Line(plain_of(w, v))
+    Some(plain_of(w, v))
 }
 
 fn plan_of(v: [u32; 12]) -> Plan
@@ -122,64 +122,64 @@ fn plan_of(v: [u32; 12]) -> Plan
 
 // The arguments of create.
 #[tactic(auto, using(text::proofs::NumberLaws::number_fits, crate::proofs::RequestLaws::create_none, crate::proofs::RequestLaws::create_wrong, crate::proofs::RequestLaws::create_right))]
-fn create_request(s: &[u8]) -> Parsed
+fn create_request(s: &[u8]) -> Option<Request>
     ensures { parsed_call result ≡ create_in (after 32 s.now) }
 {
     let read = read_number(s);
     let Number::Read(user, n) = read else {
-        return Parsed::NoRequest;
+        return None;
     };
     let target = read_target(&s[n..], 12);
     let ok = target.ok;
     if !ok {
-        return Parsed::NoRequest;
+        return None;
     }
     let v = target.v;
     let at = context_of(v[1], v[2], v[3]);
     let plan = plan_of(v);
     let on = target.on;
-    Parsed::Line(Request::Local(LocalRequest::Create(user, on, at, plan)))
+    Some(Request::Local(LocalRequest::Create(user, on, at, plan)))
 }
 
 // The arguments of open.
 #[tactic(auto, using(text::proofs::NumberLaws::two_fits, crate::proofs::RequestLaws::open_none, crate::proofs::RequestLaws::open_wrong, crate::proofs::RequestLaws::open_right))]
-fn open_request(s: &[u8]) -> Parsed
+fn open_request(s: &[u8]) -> Option<Request>
     ensures { parsed_call result ≡ open_in (after 32 s.now) }
 {
     let read = read_two(s);
     let TwoNumbers::Both(session, user, n) = read else {
-        return Parsed::NoRequest;
+        return None;
     };
     let target = read_target(&s[n..], 4);
     let ok = target.ok;
     if !ok {
-        return Parsed::NoRequest;
+        return None;
     }
     let v = target.v;
     let at = context_of(v[1], v[2], v[3]);
     let on = target.on;
-    Parsed::Line(Request::Local(LocalRequest::Open(session, user, on, at)))
+    Some(Request::Local(LocalRequest::Open(session, user, on, at)))
 }
 
 // The arguments of amend.
 #[tactic(auto, using(text::proofs::NumberLaws::two_fits, crate::proofs::RequestLaws::amend_none, crate::proofs::RequestLaws::amend_wrong, crate::proofs::RequestLaws::amend_right))]
-fn amend_request(s: &[u8]) -> Parsed
+fn amend_request(s: &[u8]) -> Option<Request>
     ensures { parsed_call result ≡ amend_in (after 32 s.now) }
 {
     let read = read_two(s);
     let TwoNumbers::Both(user, capability, n) = read else {
-        return Parsed::NoRequest;
+        return None;
     };
     let changing = last_change(&s[n..]);
     let Changing::By(change) = changing else {
-        return Parsed::NoRequest;
+        return None;
     };
-    Parsed::Line(Request::Tree(TreeRequest::Amend(user, capability, change)))
+    Some(Request::Tree(TreeRequest::Amend(user, capability, change)))
 }
 
 // The request of a word, by what follows it in its line.
 #[tactic(auto, using(crate::proofs::WordLaws::asks_plain, crate::proofs::WordLaws::asks_create, crate::proofs::WordLaws::asks_open, crate::proofs::WordLaws::asks_amend, crate::proofs::WordLaws::asks_none))]
-fn request_of(w: Word, s: &[u8]) -> Parsed
+fn request_of(w: Word, s: &[u8]) -> Option<Request>
     ensures { parsed_call result ≡ asks w (after 32 s.now) }
 {
     match w {
@@ -187,13 +187,13 @@ fn request_of(w: Word, s: &[u8]) -> Parsed
         Word::Create => create_request(s),
         Word::Open => open_request(s),
         Word::Amend => amend_request(s),
-        Word::NoWord => Parsed::NoRequest,
+        Word::NoWord => None,
     }
 }
 
 // The request of a line without its line feed, or that it is none.
 #[tactic(auto, using(crate::proofs::WordLaws::word_within))]
-pub fn parse(line: &[u8]) -> Parsed
+pub fn parse(line: &[u8]) -> Option<Request>
     ensures { parsed_call result ≡ parsed line.now }
 {
     let w = first_word(line);
