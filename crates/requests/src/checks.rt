@@ -7,43 +7,38 @@ use model::Context;
 use text::numbers::{Number, TwoNumbers};
 use text::short::{short_number, short_two};
 
-#[derive(Clone, Copy)]
-pub enum Quick {
-    Check(u32, u32, Context),
-    Unread,
-}
-
+// The session, the permission and the context of a check.
 #[tactic(auto, using(crate::proofs::QuickLaws::two_within, crate::proofs::QuickLaws::check_right))]
-pub fn check_of(line: &[u8]) -> Quick
+pub fn check_of(line: &[u8]) -> Option<(u32, u32, Context)>
     ensures { Quickly line.now result }
 {
     if line.len() < 6 {
-        return Quick::Unread;
+        return None;
     }
     if !same_bytes(&line[..6], b"check ") {
-        return Quick::Unread;
+        return None;
     }
     let asked = short_two(&line[5..]);
     let TwoNumbers::Both(session, permission, n) = asked else {
-        return Quick::Unread;
+        return None;
     };
     let from = 5 + n;
     let named = short_two(&line[from..]);
     let TwoNumbers::Both(hour, place, m) = named else {
-        return Quick::Unread;
+        return None;
     };
     let last = from + m;
     let ending = short_number(&line[last..]);
     let Number::Read(device, k) = ending else {
-        return Quick::Unread;
+        return None;
     };
     if last + k != line.len() {
-        return Quick::Unread;
+        return None;
     }
     let at = Context {
         hour,
         place,
         device,
     };
-    Quick::Check(session, permission, at)
+    Some((session, permission, at))
 }
