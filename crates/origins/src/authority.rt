@@ -2,7 +2,7 @@
 ghost use Rattle.std.specs.Prelude.{◌≡◌, ◌≤◌};
 ghost use Rattle.origins.specs.Authority.{Columns, role_item, authority_in, granted_by, lendable_by};
 
-use masks::{bit32, join};
+use masks::{join, Mask};
 use model::{Capability, Origin, Role};
 
 // The columns of the roles, to be lent where the register would be copied: the authority of each role, then what each may lend.
@@ -15,7 +15,7 @@ pub fn columns_of(roles: [Role; 32]) -> [u32; 64]
     while i < 32 {
         let x = roles[i];
         columns[i] = x.permissions;
-        columns[32 + i] = bit32(i as u32);
+        columns[32 + i] = u32::bit(i as u32);
         i = i + 1;
     }
     columns
