@@ -5,6 +5,8 @@ ghost use Rattle.std.specs.Prelude.{◌≡◌};
 ghost use Rattle.model.specs.State.{blank_role, blank_capability, blank_session, fresh as freshRegister};
 ghost use Rattle.model.specs.Requests.{refusal_number};
 
+pub mod formed;
+
 // What a capability is derived from, and what a session is opened on: a role or a capability, by number.
 #[derive(Clone, Copy, PartialEq, Eq)]
 pub enum Origin {
