@@ -5,15 +5,14 @@ use mathlib.Core.List.{List, [], ◌∷◌}
 use Prim.Native.Nat.{ℕ, suc, ◌<◌}
 use native.Mathlib.Omega.{arith}
 use lib.Dec.{T, ltb, ltb→lt, lit<}
+use Rattle.std.specs.Prelude.{⊤, Result, Ok, Err}
 use Rattle.masks.specs.Tests.{each}
-use Rattle.masks.proofs.Truth.{T→true, and_l, and_r, from_left, left_each}
+use Rattle.masks.proofs.Truth.{T→true, T→false, and_l, and_r, from_left, left_each, cond_true, cond_false}
 use Rattle.model.specs.declared.Refusal.{Refusal}
 use Rattle.model.specs.declared.Refusal.TheVariants.{Malformed, Range, Missing, Unchanged, Domain, Forbidden, Revoked, Expired, Context, Exhausted, Exceeds, Full, Past, Image, Broken, Room}
 use Rattle.model.specs.Rulings.{Outcome, value, refused, Guard, ◌unless◌, applies, number, settle, Fact, Clear, verdict}
 use Rattle.model.specs.Requests.{refusal_number}
 use Rattle.model.proofs.Settling.{fact, clear_verdict, clear_settle, answer_refused}
-use Rattle.slots.specs.declared.guards.Guarded.{Guarded}
-use Rattle.slots.specs.declared.guards.Guarded.TheVariants.{Pass, Refuse}
 use Rattle.slots.specs.Guards.{guarded, first_number, numbered, raised_of}
 
 -- ---- one test of a chain, and the tests after it
@@ -22,6 +21,15 @@ pub test_when : (g : Guard) (gs : List Guard) (t : Bool) {q k n : ℕ} → q ≡
     → q ≡ first_number (g ∷ gs)
 unfolding first_number
 test_when g gs t {q} {k} {n} p s m e = p ∙ ap₂ (λ (b : Bool) (x : ℕ). cond b n x) s e ∙ ap (λ (x : ℕ). cond (applies g) x (first_number gs)) m
+
+-- a test that refuses is answered; one that passes leaves the answer to those after it
+pub refuses : (g : Guard) (gs : List Guard) {q : ℕ} → T (applies g) → q ≡ number g → q ≡ first_number (g ∷ gs)
+unfolding first_number
+refuses g gs h e = e ∙ cond_true (applies g) _ _ (T→true (applies g) h)
+
+pub passes : (g : Guard) (gs : List Guard) {q : ℕ} → T (not (applies g)) → q ≡ first_number gs → q ≡ first_number (g ∷ gs)
+unfolding first_number
+passes g gs h e = e ∙ cond_false (applies g) _ _ (T→false (applies g) h)
 
 pub nothing_more : 0 ≡ first_number []
 unfolding first_number
@@ -91,22 +99,22 @@ none_refused (g ∷ gs) p e = cases (applies g) (fact g) e (none_refused gs (and
     cases false f q ih = (f tt, ih q)
 
 -- guards that pass: none applies
-pub pass_clear : (gs : List Guard) (k : Guarded) → T (numbered gs) → guarded k ≡ first_number gs → k ≡ Pass → Clear gs
+pub pass_clear : (gs : List Guard) (k : Result ⊤ Refusal) → T (numbered gs) → guarded k ≡ first_number gs → k ≡ Ok tt → Clear gs
 pass_clear gs k p e q = none_refused gs p (sym e ∙ ap guarded q)
 
-pub verdict_refused : (gs : List Guard) (n : ℕ) (k : Guarded) {why : Refusal} → guarded k ≡ first_number gs → k ≡ Refuse why → refused (refusal_number why) ≡ verdict gs n
+pub verdict_refused : (gs : List Guard) (n : ℕ) (k : Result ⊤ Refusal) {why : Refusal} → guarded k ≡ first_number gs → k ≡ Err why → refused (refusal_number why) ≡ verdict gs n
 verdict_refused gs n k {why} e q = sym (first_refused gs n (refusal_number why) (refusal_positive why) (sym e ∙ ap guarded q))
 
-pub verdict_passed : (gs : List Guard) (n : ℕ) (k : Guarded) → T (numbered gs) → guarded k ≡ first_number gs → k ≡ Pass → value n ≡ verdict gs n
+pub verdict_passed : (gs : List Guard) (n : ℕ) (k : Result ⊤ Refusal) → T (numbered gs) → guarded k ≡ first_number gs → k ≡ Ok tt → value n ≡ verdict gs n
 verdict_passed gs n k p e q = sym (clear_verdict gs n (pass_clear gs k p e q))
 
 -- a decision that refuses, over any state
-pub refuse_ruled : {A : Type 0} (v w : A) (gs : List Guard) (n : ℕ) (k : Guarded) {why : Refusal} → guarded k ≡ first_number gs → k ≡ Refuse why
+pub refuse_ruled : {A : Type 0} (v w : A) (gs : List Guard) (n : ℕ) (k : Result ⊤ Refusal) {why : Refusal} → guarded k ≡ first_number gs → k ≡ Err why
     → record { answer = refused (refusal_number why); after = v } ≡ settle v gs n w
 refuse_ruled v w gs n k e q = answer_refused v w gs n (sym (verdict_refused gs n k e q))
 
 -- a decision that passes
-pub pass_ruled : {A : Type 0} (v w : A) (gs : List Guard) (n : ℕ) (k : Guarded) → T (numbered gs) → guarded k ≡ first_number gs → k ≡ Pass
+pub pass_ruled : {A : Type 0} (v w : A) (gs : List Guard) (n : ℕ) (k : Result ⊤ Refusal) → T (numbered gs) → guarded k ≡ first_number gs → k ≡ Ok tt
     → record { answer = value n; after = w } ≡ settle v gs n w
 pass_ruled v w gs n k p e q = sym (clear_settle v w gs n (pass_clear gs k p e q))
 
