@@ -12,7 +12,7 @@ use std::ops::{BitOr, BitXor};
 pub fn member(mask: u64, k: u32) -> bool
     ensures { result ≡ has mask k }
 {
-    if k < 64 { (mask >> k) % 2 == 1 } else { false }
+    k < 64 && (mask >> k) % 2 == 1
 }
 
 // Every item of the mask a is one of b.
@@ -102,32 +102,30 @@ fn chosen(p: u32, mask: u32, k: u32) -> u32
     if member(u64::from(mask), k) { p } else { 0 }
 }
 
-// The masks of the items of a mask, one after the other; that of item k is at `from` + k.
+// The masks of the items of a mask, one after the other.
 #[tactic(auto, using(crate::proofs::JoinLaws::joined_more), unfolding(crate::specs::Masks::joined))]
-fn join_each(columns: &[u32; 64], from: usize, mask: u32) -> u32
-    requires { from ≤ 32 }
-    ensures { result ≡ joined (λ k. get_or columns.now (from + k) 0) mask 32 }
+fn join_each(column: &[u32; 32], mask: u32) -> u32
+    ensures { result ≡ joined (λ k. get_or column.now k 0) mask 32 }
 {
-    let mut sum: u32 = 0;
-    for i in 0..32 {
-        sum |= chosen(columns[from + i as usize], mask, i);
+    let mut sum = 0;
+    for k in 0..32 {
+        sum |= chosen(column[k as usize], mask, k);
     }
     sum
 }
 
-// The masks of the items of a mask, joined; the column that begins at `from` has that of each item. It is quick where there is at
-// most one item, as in the lent roles of every register that keeps the rules.
+// The masks of the items of a mask, joined; the column has that of each item. It is quick where there is at most one item, as in the
+// lent roles of every register that keeps the rules.
 #[tactic(auto, using(crate::proofs::JoinLaws::joined_none, crate::proofs::JoinLaws::column_single))]
-pub fn join(columns: &[u32; 64], from: usize, mask: u32) -> u32
-    requires { from ≤ 32 }
-    ensures { result ≡ joined (λ k. get_or columns.now (from + k) 0) mask 32 }
+pub fn join(column: &[u32; 32], mask: u32) -> u32
+    ensures { result ≡ joined (λ k. get_or column.now k 0) mask 32 }
 {
     let k = (mask.trailing_zeros() % 32) as usize;
     if mask == 0 {
         0
     } else if mask == 1 << k {
-        columns[from + k]
+        column[k]
     } else {
-        join_each(columns, from, mask)
+        join_each(column, mask)
     }
 }

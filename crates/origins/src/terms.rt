@@ -3,7 +3,7 @@ ghost use Rattle.std.specs.Prelude.{◌≡◌};
 ghost use Rattle.model.specs.State.{in_context, claims, below, admitted};
 ghost use Rattle.origins.specs.Terms.{terms_in, slot_terms, column_terms, bare_in};
 
-use crate::authority::{granted_by, lendable_by};
+use crate::authority::{RoleColumns, granted_by, lendable_by};
 use masks::member;
 use model::{Capability, Context, Origin, Role, blank_role};
 
@@ -58,7 +58,7 @@ pub fn allowance_of(o: Origin, x: Role, c: Capability, grants: u32, lendable: u3
 }
 
 // The same by the columns of the roles.
-pub fn allowance_in(columns: &[u32; 64], o: Origin, x: Role, c: Capability) -> Allowance
+pub fn allowance_in(columns: &RoleColumns, o: Origin, x: Role, c: Capability) -> Allowance
     ensures { terms_in result ≡ column_terms columns.now o x c }
 {
     let grants = granted_by(columns, o, c);

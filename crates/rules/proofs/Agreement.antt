@@ -19,6 +19,7 @@ use Rattle.model.specs.declared.Register.{Register}
 use Rattle.model.specs.State.{party, there, Terms, terms, claims, below, exists, opened_in, admitted, in_context, role_at, capability_at, origin_at, session_at, blank_role, blank_capability, blank_session}
 use Rattle.model.specs.Lineage.{children}
 use Rattle.model.specs.Rules.{is_origin, is_user, is_domain, bits, user_keeps, role_blank, same_domain, role_keeps, capability_blank, range_tests, in_range, all_founded, earlier, own_keeps, capability_keeps, place_keeps, session_blank, session_keeps, well_formed}
+use Rattle.origins.specs.declared.authority.RoleColumns.{RoleColumns}
 use Rattle.origins.specs.Authority.{Columns}
 use Rattle.origins.specs.Numbers.{Placed}
 use Rattle.origins.specs.Terms.{party_in, slot_terms, column_terms}
@@ -66,7 +67,7 @@ role_agrees enrolled domains users k x column =
 
 -- ---- a capability
 
-pub place_agrees : (enrolled : ℕ) (roles : List Role) (count : ℕ) (cs : List Capability) (n i j founded made : ℕ) (column : List ℕ) (known : Bool) (u : Terms)
+pub place_agrees : (enrolled : ℕ) (roles : List Role) (count : ℕ) (cs : List Capability) (n i j founded made : ℕ) (column : RoleColumns) (known : Bool) (u : Terms)
     → Placed (origin_at cs n) i j
     → founded ≡ masked (is_founded roles) 32
     → Columns column roles

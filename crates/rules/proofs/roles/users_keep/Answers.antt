@@ -8,5 +8,4 @@ use Rattle.rules.proofs.roles.users_keep.Goals as goal
 pub returns : goal.returns
 returns c =
     let a = c.args in
-    c.loop-i.invariant.1
-    ∙ ap (λ n. all_below n (λ u. user_keeps a.enrolled u (get_or a.domains.now u 0))) {x = c.loop-i.i} {y = 64} (omega arith)
+    c.loop-u.invariant ∙ ap (λ n. all_below n (λ u. user_keeps a.enrolled u (get_or a.domains.now u 0))) {x = c.loop-u.u} {y = 64} (omega arith)
