@@ -8,7 +8,7 @@ ghost use Rattle.model.specs.Setters.{with_revoked, with_use_limit, with_permiss
 ghost use Rattle.sweeps.specs.Sweeping.{one_if, swept_one, roles_after, sweep_value, swept_by};
 
 use model::{Capability, Register, Reply, Role};
-use origins::authority::{columns_of, granted_by};
+use origins::authority::{RoleColumns, columns_of, granted_by};
 use origins::numbers::capability_held;
 use origins::terms::bare_allowance;
 
@@ -67,7 +67,7 @@ pub enum Sweep {
 }
 
 // Capability c, which has number i, once the sweep has reached it; its parent is as it is by then.
-fn swept(s: Sweep, i: usize, c: Capability, parent: Capability, columns: &[u32; 64]) -> Capability
+fn swept(s: Sweep, i: usize, c: Capability, parent: Capability, columns: &RoleColumns) -> Capability
     ensures { result ≡ swept_one s i c parent columns.now }
 {
     match s {
@@ -111,7 +111,7 @@ pub fn sweep_all(r: Register, s: Sweep) -> Reply
     ensures { effect_of result ≡ swept_by r s }
 {
     let roles = roles_after(r.roles, s);
-    let columns = columns_of(roles);
+    let columns = columns_of(&roles);
     let mut next = r;
     next.roles = roles;
     let mut marks: u32 = 0;

@@ -18,13 +18,14 @@ use Rattle.model.specs.Requests.{refusal_number}
 use Rattle.model.specs.Calls.{same, ruling, settled}
 use Rattle.slots.specs.Guards.{guarded, first_number}
 use Rattle.slots.proofs.GuardLaws.{pass_clear, refuse_ruled, pass_ruled}
+use Rattle.origins.specs.declared.authority.RoleColumns.{RoleColumns}
 use Rattle.origins.specs.Authority.{authority_in, Columns}
 use Rattle.origins.proofs.Laws.{in_range_lem, authority_read}
 use Rattle.tree.specs.Tree.{lineage_end}
 use Rattle.tree.proofs.Ascent.{root_is}
 
 -- what the code reads of capability n is what is compared of it
-pub compared_is : (r : Register) → T (well_formed r) → (columns : List ℕ) → Columns columns r.roles → (n x a : ℕ) → n < r.count
+pub compared_is : (r : Register) → T (well_formed r) → (columns : RoleColumns) → Columns columns r.roles → (n x a : ℕ) → n < r.count
     → ((f : ℕ) → n < f → x ≡ lineage_end (origin_at r.capabilities) f n) → a ≡ authority_in columns (capability_at r.capabilities n)
     → (role_at r.roles x).domain ∷ a ∷ constraints (capability_at r.capabilities n) ≡ compared r n
 unfolding domain_of

@@ -10,7 +10,7 @@ ghost use Rattle.tree.specs.Orders.{order_effect, numbers_of};
 use crate::lineage::root_of;
 use crate::orders::Order;
 use model::{Refusal, Register};
-use origins::authority::{authority_in, columns_of};
+use origins::authority::{RoleColumns, authority_in, columns_of};
 use slots::guards::ensure;
 
 // All that is compared of a capability, as it stands now.
@@ -29,7 +29,7 @@ pub struct Compared {
 }
 
 #[tactic(auto, using(crate::proofs::SameLaws::compared_is))]
-fn compared_of(r: &Register, columns: &[u32; 64], n: u8) -> Compared
+fn compared_of(r: &Register, columns: &RoleColumns, n: u8) -> Compared
     requires formed { T (well_formed r.now) }
     requires kept { Columns columns.now r.now.roles }
     requires created { n < r.now.count }
@@ -69,7 +69,7 @@ pub fn same_order(r: Register, m: u32, n: u32) -> Result<Order, Refusal>
     ensures { order_effect r result ≡ settled r (same m n) }
 {
     same_guards(r.count, m, n)?;
-    let columns = columns_of(r.roles);
+    let columns = columns_of(&r.roles);
     let x = compared_of(&r, &columns, (m % 256) as u8);
     let y = compared_of(&r, &columns, (n % 256) as u8);
     Ok(Order::Value(u32::from(x == y)))
