@@ -37,8 +37,8 @@ pub fn byte_at(s: &[u8], i: usize) -> u64
     if i < s.len() { u64::from(s[i]) } else { 0 }
 }
 
-#[tactic(auto, using(crate::proofs::Parts::byte_step, crate::proofs::Parts::byte_fits, crate::proofs::Parts::number_turn))]
 // The number with the bytes s, high byte first.
+#[tactic(auto, using(crate::proofs::Parts::byte_step, crate::proofs::Parts::byte_fits, crate::proofs::Parts::number_turn))]
 fn number_of(s: &[u8]) -> u64
     requires { length s.now ≤ 8 }
     ensures { result ≡ number_of s.now }
@@ -50,8 +50,8 @@ fn number_of(s: &[u8]) -> u64
     x
 }
 
-#[tactic(auto, using(crate::proofs::Parts::byte_step, crate::proofs::Parts::byte_fits, crate::proofs::Parts::mask_turn))]
 // The mask of a map with the bytes s, low byte first.
+#[tactic(auto, using(crate::proofs::Parts::byte_step, crate::proofs::Parts::byte_fits, crate::proofs::Parts::mask_turn))]
 fn mask_of(s: &[u8]) -> u64
     requires { length s.now ≤ 8 }
     ensures { result ≡ mask_of s.now }
@@ -63,8 +63,8 @@ fn mask_of(s: &[u8]) -> u64
     x
 }
 
-#[tactic(auto, using(crate::proofs::Parts::first_turn, crate::proofs::Parts::fill_done))]
 // The 8 bytes from `at` on, 0 for each past the end.
+#[tactic(auto, using(crate::proofs::Parts::first_turn, crate::proofs::Parts::fill_done))]
 fn padded(s: &[u8], at: usize) -> [u8; 8]
     requires { at < 65536 }
     ensures { result ≡ first_bytes 8 (drop at s.now) }
