@@ -1,13 +1,13 @@
 -- Intermediate: the code's own terms, proved to come to the definitions of `model`.
 -- create over the elements that it names: the model's ruling, on the elements that are read.
-use Rattle.std.specs.Prelude.{List, ℕ, suc, ◌%◌}
+use Rattle.std.specs.Prelude.{List, [], ◌∷◌, ℕ, suc, ◌%◌, set}
 use Rattle.model.specs.declared.Origin.{Origin}
 use Rattle.model.specs.declared.Capability.{Capability}
 use Rattle.model.specs.declared.Named.{Named}
 use Rattle.model.specs.declared.Context.{Context}
 use Rattle.model.specs.declared.Plan.{Plan}
-use Rattle.model.specs.State.{plan_of, new_capability, Terms}
-use Rattle.model.specs.Rulings.{Effect, Ruling, into, ruled}
+use Rattle.model.specs.State.{plan_of, new_capability, Terms, claims, below}
+use Rattle.model.specs.Rulings.{Effect, Ruling, Guard, ◌unless◌, into, ruled}
 use Rattle.model.specs.Requests.{named_origin}
 use Rattle.model.specs.Delegation.{creating}
 use Rattle.origins.specs.Numbers.{named_in}
@@ -26,6 +26,11 @@ made_of user o plan =
 abbrev pub creating_from : Slots → Origin → Terms → ℕ → Named → Context → Plan → Ruling Capability
 creating_from v o t user named at plan =
     creating v.clock v.enrolled v.count (party_in o v.role v.parent) t user (named_origin named) at plan
+
+-- the tests, on the new capability as it is made; it has the numbers of the request only where the ranges pass
+abbrev pub creation_tests : Slots → Origin → Terms → ℕ → Named → Context → Plan → List Guard
+creation_tests v o t user named at plan =
+    set (creating_from v o t user named at plan).guards 7 (11 unless (below (claims (made_of user named plan)) t ∷ []))
 
 -- with the terms that are read too
 abbrev pub creating_on : Slots → List ℕ → Origin → ℕ → Named → Context → Plan → Ruling Capability
