@@ -4,7 +4,7 @@ use mathlib.Core.Bool.{Bool, false, cond}
 use mathlib.Core.List.{List, [], ◌∷◌}
 use Prim.Native.Nat.{ℕ, ◌%◌, ◌<◌}
 use lib.Dec.{T, ltb, ltb→lt}
-use lib.ListN.{set}
+use lib.ListN.{drop, set}
 use lib.Seq.{set-get_or}
 use Rattle.masks.specs.Tests.{each}
 use Rattle.masks.proofs.Truth.{each_at, each→}
@@ -28,14 +28,17 @@ use Rattle.model.specs.Requests.{local_call, named_origin}
 use Rattle.model.proofs.Rules.{formed→}
 use Rattle.model.proofs.RuleFacts.{origin←}
 use Rattle.model.proofs.Settling.{passed, settle_ranged, settle_same}
+use Rattle.slots.specs.declared.Slots.{Slots}
+use Rattle.slots.specs.Guards.{first_number}
+use Rattle.slots.proofs.GuardLaws.{ranged_same}
 use Rattle.slots.specs.Slots.{Places, look, lifted, with_session_slots}
 use Rattle.origins.specs.Authority.{Columns, granted_by, lendable_by}
-use Rattle.origins.specs.Numbers.{role_held, capability_held}
+use Rattle.origins.specs.Numbers.{role_held, capability_held, named_in}
 use Rattle.origins.specs.Terms.{party_in, slot_terms}
-use Rattle.origins.proofs.Laws.{in_range_lem, held_placed, placed_party, placed_terms}
+use Rattle.origins.proofs.Laws.{in_range_lem, named_exact, held_placed, placed_party, placed_terms}
 use Rattle.slots.specs.Terms.{OnPlaced, used_in}
 use Rattle.slots.proofs.SlotLaws.{put_same, put-session, ranged_commit}
-use Rattle.sessions.specs.Sessions.{close_decision, permits_in, check_answer, check_decision, opening_on, open_decision}
+use Rattle.sessions.specs.Sessions.{close_decision, permits_in, check_answer, check_decision, opening_on, opening_tests, open_decision}
 
 -- ---- close
 
@@ -105,6 +108,13 @@ check_commit r p columns s q at w h e o =
     ∙ check_answered r p columns s q at w h e o
 
 -- ---- open
+
+-- the tests with the origin as it is named
+pub open_agrees : (v : Slots) (s user : ℕ) (on : Named) (at : Context) {k : ℕ} {o : Origin} → k ≡ first_number (opening_tests v o s user on at) → o ≡ named_in on
+    → k ≡ first_number (opening_on v (named_origin on) s user at).guards
+open_agrees v s user on at e m =
+    let ts : List Bool = is_session s ∷ is_user user ∷ is_origin (named_origin on) ∷ in_context at ∷ [] in
+    e ∙ ranged_same 2 ts _ _ (λ h. ap (λ (x : Origin). drop 1 (opening_on v x s user at).guards) (m ∙ named_exact on (each_at ts h 2)))
 
 -- a session made from numbers in their ranges
 pub session_ranged : (user : ℕ) (at : Context) (o : Origin) → T (is_user user) → T (in_context at)

@@ -1,6 +1,6 @@
 -- Intermediate: the code's own terms, proved to come to the definitions of `model`.
 -- The calls on sessions over the elements that they name: the model's rulings, on the elements that are read.
-use Rattle.std.specs.Prelude.{Bool, List, ℕ}
+use Rattle.std.specs.Prelude.{Bool, List, [], ◌∷◌, ℕ, drop}
 use Rattle.masks.specs.Tests.{each}
 use Rattle.model.specs.declared.Origin.{Origin}
 use Rattle.model.specs.declared.Named.{Named}
@@ -8,7 +8,9 @@ use Rattle.model.specs.declared.Context.{Context}
 use Rattle.model.specs.declared.Role.{Role}
 use Rattle.model.specs.declared.Capability.{Capability}
 use Rattle.model.specs.declared.Session.{Session}
-use Rattle.model.specs.Rulings.{Effect, Outcome, Ruling, into, ruled, verdict}
+use Rattle.model.specs.Rulings.{Effect, Outcome, Ruling, Guard, ◌unless◌, into, ruled, verdict}
+use Rattle.model.specs.State.{in_context}
+use Rattle.model.specs.Rules.{is_session, is_user, is_origin}
 use Rattle.model.specs.Requests.{named_origin}
 use Rattle.model.specs.Sessions.{opening_session, permitting, checking, closing}
 use Rattle.slots.specs.declared.Slots.{Slots}
@@ -39,6 +41,11 @@ check_decision v column n q at =
 abbrev pub opening_on : Slots → Origin → (s user : ℕ) → Context → Ruling Session
 opening_on v o s user at =
     opening_session v.clock v.enrolled v.count v.session (party_in o v.role v.capability) (slot_terms o v.role v.capability 0 0) s user o at
+
+-- the tests for the origin that is read; it is the one named only where the ranges pass
+abbrev pub opening_tests : Slots → Origin → (s user : ℕ) → Named → Context → List Guard
+opening_tests v o s user named at =
+    (2 unless (is_session s ∷ is_user user ∷ is_origin (named_origin named) ∷ in_context at ∷ [])) ∷ drop 1 (opening_on v o s user at).guards
 
 unfoldable pub open_decision : Slots → (s user : ℕ) → Named → Context → Effect Slots
 open_decision v s user o at = ruled v (into (with_session_slots v (used_in (named_origin o) v.capability)) (opening_on v (named_origin o) s user at))

@@ -6,6 +6,7 @@ use Prim.Native.Nat.{ℕ, suc, ◌<◌}
 use native.Mathlib.Omega.{arith}
 use lib.Dec.{T, ltb, ltb→lt, lit<}
 use Rattle.std.specs.Prelude.{⊤, Result, Ok, Err}
+use Rattle.std.specs.Int.{from_bool}
 use Rattle.masks.specs.Tests.{each}
 use Rattle.masks.proofs.Truth.{T→true, T→false, and_l, and_r, from_left, left_each, cond_true, cond_false}
 use Rattle.model.specs.declared.Refusal.{Refusal}
@@ -117,6 +118,11 @@ refuse_ruled v w gs n k e q = answer_refused v w gs n (sym (verdict_refused gs n
 pub pass_ruled : {A : Type 0} (v w : A) (gs : List Guard) (n : ℕ) (k : Result ⊤ Refusal) → T (numbered gs) → guarded k ≡ first_number gs → k ≡ Ok tt
     → record { answer = value n; after = w } ≡ settle v gs n w
 pass_ruled v w gs n k p e q = sym (clear_settle v w gs n (pass_clear gs k p e q))
+
+-- yes as a number
+pub yes_number : (b : Bool) → from_bool b ≡ cond b 1 0
+yes_number true = refl
+yes_number false = refl
 
 -- ---- limits
 
