@@ -16,6 +16,7 @@ use Rattle.model.specs.declared.Capability.{Capability}
 use Rattle.model.specs.Rulings.{◌unless◌}
 use Rattle.model.specs.Delegation.{create_ranges}
 use Rattle.model.specs.Requests.{named_origin}
+use Rattle.origins.specs.declared.authority.RoleColumns.{RoleColumns}
 use Rattle.origins.specs.Numbers.{named_in}
 use Rattle.origins.proofs.Laws.{in_range_lem, named_exact}
 use Rattle.slots.specs.declared.Slots.{Slots}
@@ -39,7 +40,7 @@ made_exact user o at plan h =
     )
 
 -- the guards with the origin as it is named, and the terms as they are read
-pub create_agrees : (v : Slots) (column : List ℕ) (user : ℕ) (origin : Named) (at : Context) (plan : Plan) {k : ℕ} {t : Terms} {o : Origin}
+pub create_agrees : (v : Slots) (column : RoleColumns) (user : ℕ) (origin : Named) (at : Context) (plan : Plan) {k : ℕ} {t : Terms} {o : Origin}
     → k ≡ first_number (creation_tests v o t user origin at plan) → t ≡ origin_terms v column o → o ≡ named_in origin
     → k ≡ first_number (creating_on v column (named_origin origin) user origin at plan).guards
 create_agrees v column user origin at plan {k} {t} {o} e q m =

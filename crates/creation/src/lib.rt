@@ -12,6 +12,7 @@ ghost use Rattle.creation.specs.Creation.{made_of, creation_tests, create_decisi
 
 use masks::member;
 use model::{Capability, Context, Named, Origin, Plan, Refusal};
+use origins::authority::RoleColumns;
 use origins::numbers::{named_range, origin_named};
 use origins::standing::{alive_in, creates_in, member_in, present_in};
 use origins::terms::{Allowance, admits, in_context, is_below};
@@ -96,7 +97,7 @@ fn create_guards(
 #[tactic(auto, using(model::proofs::Settling::passed, origins::proofs::Laws::named_exact, slots::proofs::GuardLaws::raised_below, slots::proofs::CountLaws::created_below, crate::proofs::Laws::create_agrees, crate::proofs::Laws::made_exact), unfolding(crate::specs::Creation::create_decision))]
 pub fn decide_create(
     v: Slots,
-    columns: &[u32; 64],
+    columns: &RoleColumns,
     user: u32,
     origin: Named,
     at: Context,

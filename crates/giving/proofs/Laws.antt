@@ -8,8 +8,9 @@ use Rattle.model.specs.Rulings.{Effect}
 use Rattle.slots.specs.declared.Slots.{Slots}
 use Rattle.slots.specs.Terms.{origin_terms}
 use Rattle.giving.specs.Giving.{give_decision}
+use Rattle.origins.specs.declared.authority.RoleColumns.{RoleColumns}
 
-pub give_agrees : (v : Slots) (column : List ℕ) (given : Terms → ℕ) (had user n mask : ℕ) (d : Capability) {q : Effect Slots} {t : Terms} → t ≡ origin_terms v column v.capability.origin
+pub give_agrees : (v : Slots) (column : RoleColumns) (given : Terms → ℕ) (had user n mask : ℕ) (d : Capability) {q : Effect Slots} {t : Terms} → t ≡ origin_terms v column v.capability.origin
     → q ≡ give_decision v column (given t) had user n mask d
     → q ≡ give_decision v column (given (origin_terms v column v.capability.origin)) had user n mask d
 give_agrees v column given had user n mask d p e = e ∙ ap (λ (x : Terms). give_decision v column (given x) had user n mask d) p

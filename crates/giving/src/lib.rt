@@ -10,7 +10,7 @@ ghost use Rattle.giving.specs.Giving.{hand_decision, give_decision, allow_decisi
 
 use masks::{contained, including, member};
 use model::{Capability, Refusal};
-use origins::authority::authority_in;
+use origins::authority::{RoleColumns, authority_in};
 use slots::guards::{ensure, raised};
 use slots::terms::origin_allows;
 use slots::{Decision, Slots, settle};
@@ -66,7 +66,7 @@ fn give_guards(v: Slots, g: Gift) -> Result<(), Refusal>
 }
 
 // Allow and lend, once it is known what they give.
-fn give(v: Slots, columns: &[u32; 64], g: Gift) -> Decision
+fn give(v: Slots, columns: &RoleColumns, g: Gift) -> Decision
     ensures { ruled_of result ≡ give_decision v columns.now g.given g.had g.user g.number g.mask g.after }
 {
     let authority = authority_in(columns, g.after);
@@ -99,7 +99,7 @@ pub fn decide_hand(v: Slots, user: u32, receiver: u32, number: u32) -> Decision
 
 // The slot `capability` is the capability named; the slot `role` or `parent` is its origin.
 #[tactic(auto, using(crate::proofs::Laws::give_agrees), unfolding(crate::specs::Giving::allow_decision))]
-pub fn decide_allow(v: Slots, columns: &[u32; 64], user: u32, number: u32, mask: u32) -> Decision
+pub fn decide_allow(v: Slots, columns: &RoleColumns, user: u32, number: u32, mask: u32) -> Decision
     ensures { ruled_of result ≡ allow_decision v columns.now user number mask }
 {
     let c = v.capability;
@@ -119,7 +119,7 @@ pub fn decide_allow(v: Slots, columns: &[u32; 64], user: u32, number: u32, mask:
 
 // The same slots, for the roles that the origin may lend.
 #[tactic(auto, using(crate::proofs::Laws::give_agrees), unfolding(crate::specs::Giving::lend_decision))]
-pub fn decide_lend(v: Slots, columns: &[u32; 64], user: u32, number: u32, mask: u32) -> Decision
+pub fn decide_lend(v: Slots, columns: &RoleColumns, user: u32, number: u32, mask: u32) -> Decision
     ensures { ruled_of result ≡ lend_decision v columns.now user number mask }
 {
     let c = v.capability;

@@ -32,6 +32,7 @@ use Rattle.slots.specs.declared.Slots.{Slots}
 use Rattle.slots.specs.Guards.{first_number}
 use Rattle.slots.proofs.GuardLaws.{ranged_same}
 use Rattle.slots.specs.Slots.{Places, look, lifted, with_session_slots}
+use Rattle.origins.specs.declared.authority.RoleColumns.{RoleColumns}
 use Rattle.origins.specs.Authority.{Columns, granted_by, lendable_by}
 use Rattle.origins.specs.Numbers.{role_held, capability_held, named_in}
 use Rattle.origins.specs.Terms.{party_in, slot_terms}
@@ -61,7 +62,7 @@ unlent tick y (ofRole k) x c grants lendable user q at = refl
 unlent tick y (ofCapability n) x c grants lendable user q at = refl
 
 -- what an origin permits, from its element
-origin_permits : (r : Register) (p : Places) (columns : List ℕ) (s : Session) (q : ℕ) (at : Context) → Columns columns r.roles → OriginInRange s.on → OnPlaced p s.on
+origin_permits : (r : Register) (p : Places) (columns : RoleColumns) (s : Session) (q : ℕ) (at : Context) → Columns columns r.roles → OriginInRange s.on → OnPlaced p s.on
     → permits_in r.clock s (look r p).role (look r p).capability columns q at ≡ permits r s.on s.user q at
 unfolding permits_in permits
 origin_permits r p columns s q at h l e =
@@ -74,7 +75,7 @@ origin_permits r p columns s q at h l e =
     (placed_terms columns r.roles h r.capabilities s.on p.role p.capability ranged e)
 
 -- the answer to a check, by the session and what it is on, read from the register
-pub check_answered : (r : Register) (p : Places) (columns : List ℕ) (s q : ℕ) (at : Context) → T (well_formed r) → Columns columns r.roles
+pub check_answered : (r : Register) (p : Places) (columns : RoleColumns) (s q : ℕ) (at : Context) → T (well_formed r) → Columns columns r.roles
     → p.session ≡ s % 64 → OnPlaced p (session_at r.sessions (s % 64)).on
     → record { answer = check_answer r.clock (session_at r.sessions p.session) (role_at r.roles p.role) (capability_at r.capabilities p.capability) columns s q at; after = r }
     ≡ settled r (check s q at)
@@ -92,7 +93,7 @@ check_answered r p columns s q at w h e o =
     ))
 
 -- the same, where o is the answer and the places are those that the session's own numbers give
-pub check_done : (r : Register) (columns : List ℕ) (n q : ℕ) (at : Context) (i j : ℕ) (o : Outcome) → T (well_formed r) → Columns columns r.roles
+pub check_done : (r : Register) (columns : RoleColumns) (n q : ℕ) (at : Context) (i j : ℕ) (o : Outcome) → T (well_formed r) → Columns columns r.roles
     → (let on = (session_at r.sessions (n % 64)).on in (i ≡ role_held on) × (j ≡ capability_held on)) → j < 256
     → o ≡ check_answer r.clock (session_at r.sessions (n % 64)) (role_at r.roles (i % 32)) (capability_at r.capabilities j) columns n q at
     → record { answer = o; after = r } ≡ settled r (check n q at)
@@ -100,7 +101,7 @@ check_done r columns n q at i j o k column held few e =
     ap (λ (z : Outcome). record { answer = z; after = r }) e
     ∙ check_answered r (record { user = 0; role = i % 32; parent = 0; capability = j; session = n % 64 }) columns n q at k column refl (held_placed (session_at r.sessions (n % 64)).on i j held.0 held.1 few)
 
-pub check_commit : (r : Register) (p : Places) (columns : List ℕ) (s q : ℕ) (at : Context) → T (well_formed r) → Columns columns r.roles
+pub check_commit : (r : Register) (p : Places) (columns : RoleColumns) (s q : ℕ) (at : Context) → T (well_formed r) → Columns columns r.roles
     → p.session ≡ s % 64 → OnPlaced p (session_at r.sessions (s % 64)).on
     → lifted r p (check_decision (look r p) columns s q at) ≡ settled r (check s q at)
 check_commit r p columns s q at w h e o =

@@ -15,6 +15,7 @@ use Rattle.model.specs.Requests.{named_origin}
 use Rattle.model.specs.Sessions.{opening_session, permitting, checking, closing}
 use Rattle.slots.specs.declared.Slots.{Slots}
 use Rattle.slots.specs.Slots.{with_session_slots}
+use Rattle.origins.specs.declared.authority.RoleColumns.{RoleColumns}
 use Rattle.origins.specs.Authority.{granted_by}
 use Rattle.origins.specs.Terms.{party_in, slot_terms}
 use Rattle.slots.specs.Terms.{used_in}
@@ -23,17 +24,17 @@ unfoldable pub close_decision : Slots → ℕ → Effect Slots
 close_decision v s = ruled v (into (with_session_slots v v.capability) (closing v.session s))
 
 -- the session s has the permission in this context; x or c is the role or the capability that it is on; what it may lend is not read
-unfoldable pub permits_in : (tick : ℕ) → Session → Role → Capability → List ℕ → (permission : ℕ) → Context → Bool
+unfoldable pub permits_in : (tick : ℕ) → Session → Role → Capability → RoleColumns → (permission : ℕ) → Context → Bool
 permits_in tick s x c column q at =
     each (permitting tick (party_in s.on x c) (slot_terms s.on x c (granted_by column s.on c) 0) s.user q at)
 
 -- the answer alone, since check changes nothing
-unfoldable pub check_answer : (tick : ℕ) → Session → Role → Capability → List ℕ → (n permission : ℕ) → Context → Outcome
+unfoldable pub check_answer : (tick : ℕ) → Session → Role → Capability → RoleColumns → (n permission : ℕ) → Context → Outcome
 check_answer tick s x c column n q at =
     let a : Ruling Session = checking s (permits_in tick s x c column q at) n q at in
     verdict a.guards a.result
 
-abbrev pub check_decision : Slots → List ℕ → (n permission : ℕ) → Context → Effect Slots
+abbrev pub check_decision : Slots → RoleColumns → (n permission : ℕ) → Context → Effect Slots
 check_decision v column n q at =
     record { answer = check_answer v.clock v.session v.role v.capability column n q at; after = v }
 

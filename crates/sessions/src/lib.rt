@@ -11,7 +11,7 @@ ghost use Rattle.sessions.specs.Sessions.{close_decision, permits_in, check_answ
 
 use masks::member;
 use model::{Answer, Capability, Context, Named, Origin, Refusal, Role, Session, blank_session};
-use origins::authority::granted_by;
+use origins::authority::{RoleColumns, granted_by};
 use origins::numbers::{named_range, origin_named};
 use origins::standing::{alive_in, member_in, present_in, usable_in};
 use origins::terms::{admits, allowance_of, in_context};
@@ -61,7 +61,7 @@ fn permitted(
     s: Session,
     x: Role,
     c: Capability,
-    columns: &[u32; 64],
+    columns: &RoleColumns,
     permission: u32,
     at: Context,
 ) -> bool
@@ -75,15 +75,14 @@ fn permitted(
         && admits(t, at)
 }
 
-// The answer to a check, where yes is the value 1 (§6.13.2), by its session and the role and the capability that this may be on. Nothing changes, so that a caller who
-// holds the register needs nothing else. `decide_check` does not call it: a function with one caller, here the journal, is inlined.
-#[tactic(auto, using(slots::proofs::GuardLaws::verdict_refused, slots::proofs::GuardLaws::verdict_passed, slots::proofs::GuardLaws::yes_number), unfolding(crate::specs::Sessions::check_answer))]
+// The answer to a check, where yes is the value 1 (§6.13.2), by its session and the role and the capability that this may be on.
+// Nothing changes, so that a caller who holds the register needs nothing else. `decide_check` does not call it: a function with one caller, here the journal, is inlined.
 pub fn answer_check(
     tick: u32,
     s: Session,
     x: Role,
     c: Capability,
-    columns: &[u32; 64],
+    columns: &RoleColumns,
     session: u32,
     permission: u32,
     at: Context,
@@ -95,10 +94,9 @@ pub fn answer_check(
     Ok(u32::from(yes))
 }
 
-#[tactic(auto, using(model::proofs::Settling::settle_same), unfolding(crate::specs::Sessions::check_answer))]
 pub fn decide_check(
     v: Slots,
-    columns: &[u32; 64],
+    columns: &RoleColumns,
     session: u32,
     permission: u32,
     at: Context,
