@@ -8,10 +8,6 @@ abbrev pub before : ℕ → List ℕ → List ℕ
 before b [] = []
 before b (x ∷ s) = let rest = before b s in cond (eqb x b) [] (x ∷ rest)
 
--- "The first word of a line is the part of that line before its first space, or all of it without one"
-abbrev pub first_word : List ℕ → List ℕ
-first_word line = before 32 line
-
 -- a word ends before these bytes: there are none, or a space comes first
 abbrev pub ends_word : List ℕ → Bool
 ends_word [] = true
