@@ -4,6 +4,7 @@ ghost use Rattle.model.specs.State.{in_context, claims, below, admitted};
 ghost use Rattle.origins.specs.Terms.{terms_in, slot_terms, column_terms, bare_in};
 
 use crate::authority::{RoleColumns, granted_by, lendable_by};
+use crate::standing::Party;
 use masks::member;
 use model::{Capability, Context, Origin, Role, blank_role};
 
@@ -22,56 +23,93 @@ pub struct Allowance {
     pub revoked: bool,
 }
 
-// The terms of a role x, or of a capability c, that grants `grants` and may lend `lendable`.
-#[tactic(auto, unfolding(crate::specs::Terms::slot_terms))]
-pub fn allowance_of(o: Origin, x: Role, c: Capability, grants: u32, lendable: u32) -> Allowance
-    ensures { terms_in result ≡ slot_terms o x c grants lendable }
-{
-    match o {
-        Origin::Role(k) => Allowance {
-            grants: grants,
-            lendable: lendable,
-            hours: x.hours,
-            places: x.places,
-            devices: x.devices,
-            first: 0,
-            last: 4294967295,
-            use_limit: 65535,
-            creation_limit: 65535,
-            hop_limit: 65535,
-            revoked: false,
-        },
-        Origin::Capability(n) => Allowance {
-            grants: grants,
-            lendable: lendable,
-            hours: c.hours,
-            places: c.places,
-            devices: c.devices,
-            first: c.first,
-            last: c.last,
-            use_limit: c.use_limit,
-            creation_limit: c.creation_limit,
-            hop_limit: c.hop_limit,
-            revoked: c.revoked,
-        },
+impl<'a> Party<'a> {
+    // The terms of a role or a capability that grants `grants` and may lend `lendable`.
+    #[tactic(auto, unfolding(crate::specs::Terms::slot_terms))]
+    pub fn allows(&self, grants: u32, lendable: u32) -> Allowance
+        ensures { terms_in result ≡ slot_terms self.now.origin self.now.role.now self.now.capability.now grants lendable }
+    {
+        match self.origin {
+            Origin::Role(_) => {
+                let x = self.role;
+                Allowance {
+                    grants,
+                    lendable,
+                    hours: x.hours,
+                    places: x.places,
+                    devices: x.devices,
+                    first: 0,
+                    last: u32::MAX,
+                    use_limit: u16::MAX,
+                    creation_limit: u16::MAX,
+                    hop_limit: u16::MAX,
+                    revoked: false,
+                }
+            }
+            Origin::Capability(_) => {
+                let c = self.capability;
+                Allowance {
+                    grants,
+                    lendable,
+                    hours: c.hours,
+                    places: c.places,
+                    devices: c.devices,
+                    first: c.first,
+                    last: c.last,
+                    use_limit: c.use_limit,
+                    creation_limit: c.creation_limit,
+                    hop_limit: c.hop_limit,
+                    revoked: c.revoked,
+                }
+            }
+        }
     }
-}
 
-// The same by the columns of the roles.
-pub fn allowance_in(columns: &RoleColumns, o: Origin, x: Role, c: Capability) -> Allowance
-    ensures { terms_in result ≡ column_terms columns.now o x c }
-{
-    let grants = granted_by(columns, o, c);
-    let lendable = lendable_by(columns, o, c);
-    allowance_of(o, x, c, grants, lendable)
+    // The same by the columns of the roles.
+    pub fn allows_by(&self, columns: &RoleColumns) -> Allowance
+        ensures { terms_in result ≡ column_terms columns.now self.now.origin self.now.role.now self.now.capability.now }
+    {
+        self.allows(
+            granted_by(columns, self.origin, *self.capability),
+            lendable_by(columns, self.origin, *self.capability),
+        )
+    }
 }
 
 // The same as far as it needs neither the role nor a column: life, limits and the revoked mark.
 pub fn bare_allowance(o: Origin, c: Capability) -> Allowance
     ensures { terms_in result ≡ bare_in o c }
 {
-    let x = blank_role();
-    allowance_of(o, x, c, 0, 0)
+    let party = Party {
+        origin: o,
+        role: &blank_role(),
+        capability: &c,
+    };
+    party.allows(0, 0)
+}
+
+// ---- the same over the three arguments, until the calls ask a party
+
+pub fn allowance_of(o: Origin, x: Role, c: Capability, grants: u32, lendable: u32) -> Allowance
+    ensures { terms_in result ≡ slot_terms o x c grants lendable }
+{
+    let party = Party {
+        origin: o,
+        role: &x,
+        capability: &c,
+    };
+    party.allows(grants, lendable)
+}
+
+pub fn allowance_in(columns: &RoleColumns, o: Origin, x: Role, c: Capability) -> Allowance
+    ensures { terms_in result ≡ column_terms columns.now o x c }
+{
+    let party = Party {
+        origin: o,
+        role: &x,
+        capability: &c,
+    };
+    party.allows_by(columns)
 }
 
 // Hour, place and device are in their ranges.

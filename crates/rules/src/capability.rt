@@ -8,12 +8,10 @@ ghost use Rattle.origins.specs.Authority.{Columns};
 ghost use Rattle.rules.specs.Columns.{is_founded, masked};
 
 use crate::columns::{bump, founded_roles, places};
+use crate::parties::party_at;
 use entries::capability::keeps_place;
 use model::Register;
 use origins::authority::{RoleColumns, columns_of};
-use origins::numbers::{capability_held, role_held};
-use origins::standing::present_in;
-use origins::terms::allowance_in;
 
 // How many capabilities were created from each.
 #[tactic(auto, using(crate::proofs::Counts::tally_le, crate::proofs::Counts::tally_more, crate::proofs::Counts::tally_at), unfolding(crate::specs::Columns::tally))]
@@ -28,17 +26,16 @@ fn children_counted(r: &Register) -> [u16; 256]
 }
 
 // The rules of place n, from which `made` capabilities were created.
-#[tactic(auto, using(origins::proofs::Laws::held_placed, crate::proofs::Agreement::place_agrees))]
+#[tactic(auto, using(crate::proofs::Agreement::place_agrees))]
 fn place_keeps(r: &Register, columns: &RoleColumns, founded: u64, made: u16, n: usize) -> bool
     requires { n < 256 }
     ensures { Columns columns.now r.now.roles → founded ≡ masked (is_founded r.now.roles) 32 → made ≡ children r.now.count r.now.capabilities n
         → result ≡ place_keeps r.now.enrolled r.now.roles r.now.count r.now.capabilities n (capability_at r.now.capabilities n) }
 {
     let c = r.capabilities[n];
-    let role = r.roles[(role_held(c.origin) % 32) as usize];
-    let p = r.capabilities[capability_held(c.origin) as usize];
-    let u = allowance_in(columns, c.origin, role, p);
-    let there = present_in(c.origin, role, r.count);
+    let party = party_at(r, c.origin);
+    let there = party.present(r.count);
+    let u = party.allows_by(columns);
     keeps_place(r.enrolled, founded, r.count, n, there, u, made, c)
 }
 

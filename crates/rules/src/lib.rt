@@ -3,6 +3,7 @@
 
 mod capability;
 mod columns;
+mod parties;
 mod roles;
 mod session;
 

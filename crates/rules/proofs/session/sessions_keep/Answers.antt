@@ -1,11 +1,9 @@
 use mathlib.Core.Bool.{◌&&◌}
 use mathlib.Core.Path.{ap, ◌∙◌}
-use Prim.Native.Nat.{◌%◌}
 use native.Mathlib.Omega.{arith}
 use Rattle.masks.specs.Tests.{all_below}
 use Rattle.model.specs.Rules.{session_keeps}
 use Rattle.model.specs.State.{session_at}
-use Rattle.origins.proofs.Laws.{held_placed}
 use Rattle.rules.proofs.Laws.{all_more}
 use Rattle.rules.proofs.Agreement.{session_agrees}
 use Rattle.rules.proofs.session.sessions_keep.Goals as goal
@@ -16,8 +14,7 @@ loop-s-preserved c =
     let l = c.loop-s in
     all_more l.s-index _ l.invariant
     (ap (λ t. l.ok && t)
-    (c.session_keeps-ok.ensures
-    ∙ session_agrees r.enrolled r.roles r.count r.capabilities l.s-index (c.role_held.result % 32) c.capability_held.result 0 0 (session_at r.sessions l.s-index) _ _ (held_placed (session_at r.sessions l.s-index).on _ _ (search) (search) (omega arith)) (c.present_in-there.ensures _) (search)))
+    (c.session_keeps-ok.ensures ∙ session_agrees r l.s-index 0 0 (session_at r.sessions l.s-index) _ _ _ c.party_at-party.ensures c.present.ensures c.allows.ensures))
 
 pub returns : goal.returns
 returns c =
