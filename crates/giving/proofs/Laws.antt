@@ -1,6 +1,5 @@
 -- A decision with the terms that its origin is read to have.
 use mathlib.Core.Path.{◌≡◌, ap, ◌∙◌}
-use mathlib.Core.List.{List}
 use Prim.Native.Nat.{ℕ}
 use Rattle.model.specs.declared.Capability.{Capability}
 use Rattle.model.specs.State.{Terms}

@@ -1,6 +1,6 @@
 -- Intermediate: the code's own terms, proved to come to the definitions of `model`.
 -- hand, allow and lend over the elements that they name: the model's rulings on a capability, for the one that is read.
-use Rattle.std.specs.Prelude.{List, ℕ}
+use Rattle.std.specs.Prelude.{ℕ}
 use Rattle.model.specs.declared.Capability.{Capability}
 use Rattle.model.specs.Rulings.{Effect}
 use Rattle.model.specs.Delegation.{giving, allowing, lending, handing}

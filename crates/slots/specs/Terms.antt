@@ -1,6 +1,5 @@
 -- Intermediate: the code's own terms, proved to come to the definitions of `model`.
 -- What an origin allows, from the elements read, and counts that rise.
-use Rattle.std.specs.Prelude.{List, ℕ}
 use Rattle.model.specs.declared.Origin.{Origin}
 use Rattle.model.specs.declared.Origin.TheVariants.{Role as ofRole, Capability as ofCapability}
 use Rattle.model.specs.declared.Capability.{Capability}

@@ -1,4 +1,3 @@
-use mathlib.Core.Bool.{false}
 use mathlib.Core.Path.{refl, ap, ◌∙◌}
 use Rattle.std.proofs.Common.{rules, ◌≡◌, Err}
 use Rattle.model.specs.Requests.{outcome_of}
