@@ -7,10 +7,11 @@ ghost use Rattle.model.specs.Calls.{settled, step};
 ghost use Rattle.model.specs.Requests.{effect_of, call_of, local_call, tree_call};
 
 use dispatch::{decide, order_of};
-use model::{Answer, LocalRequest, Refusal, Register, Reply, Request, TreeRequest};
+use model::{LocalRequest, Refusal, Register, Reply, Request, TreeRequest};
 use origins::authority::columns_of;
 use places::{capability_at, names_of, parent_at, role_at, seen, session_at, user_at};
 use rules::well_formed;
+use slots::Decision;
 use sweeps::sweep_all;
 use tree::orders::Order;
 
@@ -21,37 +22,30 @@ fn apply_local(r: Register, q: LocalRequest) -> Reply
     requires { T (well_formed r) }
     ensures { effect_of result ≡ settled r (local_call q) }
 {
-    let roles = r.roles;
-    let columns = columns_of(roles);
-    let m = names_of(q);
-    let un = user_at(m);
-    let sn = session_at(m);
-    let s = r.sessions[sn];
-    let cn = capability_at(m, s, r.count);
-    let c = r.capabilities[cn];
-    let rn = role_at(m, s, c);
-    let x = r.roles[rn];
-    let pn = parent_at(m, c);
-    let p = r.capabilities[pn];
-    let v = seen(r.clock, r.enrolled, r.count, r.domains[un], x, p, c, s);
-    let d = decide(v, &columns, q);
-    let w = d.slots;
+    let columns = columns_of(&r.roles);
+    let names = names_of(q);
+    let user = user_at(names);
+    let session = session_at(names);
+    let s = r.sessions[session];
+    let capability = capability_at(names, s, r.count);
+    let c = r.capabilities[capability];
+    let role = role_at(names, s, c);
+    let x = r.roles[role];
+    let parent = parent_at(names, c);
+    let p = r.capabilities[parent];
+    let v = seen(r.clock, r.enrolled, r.count, r.domains[user], x, p, c, s);
+    let Decision { answer, slots } = decide(v, &columns, q);
     let mut next = r;
-    next.clock = w.clock;
-    next.enrolled = w.enrolled;
-    next.count = w.count;
-    next.domains[un] = w.domain;
-    let x = w.role;
-    next.roles[rn] = x;
-    let x = w.parent;
-    next.capabilities[pn] = x;
-    let x = w.capability;
-    next.capabilities[cn] = x;
-    let x = w.session;
-    next.sessions[sn] = x;
-    let answer = d.answer;
+    next.clock = slots.clock;
+    next.enrolled = slots.enrolled;
+    next.count = slots.count;
+    next.domains[user] = slots.domain;
+    next.roles[role] = slots.role;
+    next.capabilities[parent] = slots.parent;
+    next.capabilities[capability] = slots.capability;
+    next.sessions[session] = slots.session;
     Reply {
-        answer: answer,
+        answer,
         register: next,
     }
 }
@@ -61,13 +55,16 @@ fn apply_tree(r: Register, t: TreeRequest) -> Reply
     requires { T (well_formed r) }
     ensures { effect_of result ≡ settled r (tree_call t) }
 {
-    let order = order_of(r, t);
-    match order {
-        Order::Answered(answer) => Reply {
-            answer: answer,
+    match order_of(r, t) {
+        Ok(Order::Sweep(s)) => sweep_all(r, s),
+        Ok(Order::Value(value)) => Reply {
+            answer: Ok(value),
             register: r,
         },
-        Order::Swept(s) => sweep_all(r, s),
+        Err(why) => Reply {
+            answer: Err(why),
+            register: r,
+        },
     }
 }
 
@@ -91,7 +88,7 @@ pub fn apply(r: Register, q: Request) -> Reply
         apply_trusted(r, q)
     } else {
         Reply {
-            answer: Answer::Refused(Refusal::Broken),
+            answer: Err(Refusal::Broken),
             register: r,
         }
     }

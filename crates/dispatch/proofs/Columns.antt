@@ -11,6 +11,7 @@ use Rattle.model.specs.declared.LocalRequest.TheVariants.{Enrol, Found, Grant, A
 use Rattle.model.specs.declared.Register.{Register}
 use Rattle.model.specs.Rulings.{Effect, Guard, settle}
 use Rattle.model.proofs.Settling.{Settled, accepted, declined, settle_cases}
+use Rattle.origins.specs.declared.authority.RoleColumns.{RoleColumns}
 use Rattle.origins.specs.Authority.{Columns}
 use Rattle.slots.specs.declared.Slots.{Slots}
 use Rattle.slots.specs.declared.Decision.{Decision}
@@ -30,7 +31,7 @@ settle-role v w gs n e = cases (settle_cases v gs n w)
     cases (accepted c p) = ap (λ (x : Effect Slots). x.after.role) p ∙ e
     cases (declined m p) = ap (λ (x : Effect Slots). x.after.role) p
 
-role_stays : (v : Slots) (column : List ℕ) (q : LocalRequest) → changes_role (names_of q).follow ≡ false → (decide_of v column q).after.role ≡ v.role
+role_stays : (v : Slots) (column : RoleColumns) (q : LocalRequest) → changes_role (names_of q).follow ≡ false → (decide_of v column q).after.role ≡ v.role
 unfolding enrol_decision clock_decision create_decision allow_decision lend_decision hand_decision open_decision close_decision
 role_stays v column (Enrol user domain) e = settle-role v _ _ _ refl
 role_stays v column (Found role domain hours places devices) e = absurd (subst T e tt)
@@ -47,7 +48,7 @@ role_stays v column (Check s permission at) e = refl
 role_stays v column (Close s) e = settle-role v _ _ _ refl
 
 -- what was decided, put back
-pub columns_kept : (r : Register) (p : Places) (column : List ℕ) (q : LocalRequest) (d : Decision) → Columns column r.roles → ruled_of d ≡ decide_of (look r p) column q → changes_role (names_of q).follow ≡ false
+pub columns_kept : (r : Register) (p : Places) (column : RoleColumns) (q : LocalRequest) (d : Decision) → Columns column r.roles → ruled_of d ≡ decide_of (look r p) column q → changes_role (names_of q).follow ≡ false
     → Columns column (set r.roles p.role d.slots.role)
 columns_kept r p column q d h e f =
     let same : d.slots.role ≡ (look r p).role = ap (λ (x : Effect Slots). x.after.role) e ∙ role_stays (look r p) column q f in

@@ -1,9 +1,9 @@
 -- Intermediate: the code's own terms, proved to come to the definitions of `model`.
 -- A request decided over the elements that it names.
-use Rattle.std.specs.Prelude.{List, ℕ}
 use Rattle.model.specs.declared.LocalRequest.{LocalRequest}
 use Rattle.model.specs.declared.LocalRequest.TheVariants.{Enrol, Found, Grant, Appoint, Dismiss, Clock, Create, Allow, Lend, Hand, Open, Check, Close}
 use Rattle.model.specs.Rulings.{Effect}
+use Rattle.origins.specs.declared.authority.RoleColumns.{RoleColumns}
 use Rattle.slots.specs.declared.Slots.{Slots}
 use Rattle.administration.specs.Administration.{enrol_decision, found_decision, grant_decision, appoint_decision, dismiss_decision, clock_decision}
 use Rattle.creation.specs.Creation.{create_decision}
@@ -11,7 +11,7 @@ use Rattle.giving.specs.Giving.{allow_decision, lend_decision, hand_decision}
 use Rattle.sessions.specs.Sessions.{open_decision, check_decision, close_decision}
 
 -- by the columns of the roles
-abbrev pub decide_of : Slots → List ℕ → LocalRequest → Effect Slots
+abbrev pub decide_of : Slots → RoleColumns → LocalRequest → Effect Slots
 decide_of v column (Enrol user domain) = enrol_decision v user domain
 decide_of v column (Found role domain hours places devices) = found_decision v role domain hours places devices
 decide_of v column (Grant role permission) = grant_decision v role permission

@@ -14,7 +14,8 @@ use administration::{
 };
 use creation::decide_create;
 use giving::{decide_allow, decide_hand, decide_lend};
-use model::{LocalRequest, Register, TreeRequest};
+use model::{LocalRequest, Refusal, Register, TreeRequest};
+use origins::authority::RoleColumns;
 use sessions::{decide_check, decide_close, decide_open};
 use slots::{Decision, Slots};
 use tree::amending::amend_order;
@@ -24,7 +25,7 @@ use tree::revoking::revoke_order;
 use tree::withdrawing::withdraw_order;
 
 // A request that changes only elements that it names.
-pub fn decide(v: Slots, columns: &[u32; 64], q: LocalRequest) -> Decision
+pub fn decide(v: Slots, columns: &RoleColumns, q: LocalRequest) -> Decision
     ensures { ruled_of result ≡ decide_of v columns.now q }
 {
     match q {
@@ -51,7 +52,7 @@ pub fn decide(v: Slots, columns: &[u32; 64], q: LocalRequest) -> Decision
 }
 
 // What a call over the whole tree comes to, on a register that is known to be well-formed: nothing changes yet.
-pub fn order_of(r: Register, t: TreeRequest) -> Order
+pub fn order_of(r: Register, t: TreeRequest) -> Result<Order, Refusal>
     requires { T (well_formed r) }
     ensures { order_effect r result ≡ settled r (tree_call t) }
 {
