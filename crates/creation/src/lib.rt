@@ -14,7 +14,7 @@ use masks::member;
 use model::{Capability, Context, Named, Origin, Plan, Refusal};
 use origins::authority::RoleColumns;
 use origins::numbers::{named_range, origin_named};
-use origins::standing::{alive_in, creates_in, member_in, present_in};
+use origins::standing::Party;
 use origins::terms::{Allowance, admits, in_context, is_below};
 use slots::counting::created_in;
 use slots::guards::{ensure, raised};
@@ -76,19 +76,24 @@ fn create_guards(
 ) -> Result<(), Refusal>
     ensures { guarded result ≡ first_number (creation_tests v o (terms_in a) user origin at plan) }
 {
+    let party = Party {
+        origin: o,
+        role: &v.role,
+        capability: &v.parent,
+    };
     ensure(in_ranges(user, origin, at, plan), Refusal::Range)?;
     ensure(
-        member(v.enrolled, user) && present_in(o, v.role, v.count),
+        member(v.enrolled, user) && party.present(v.count),
         Refusal::Missing,
     )?;
     ensure(
-        member_in(o, v.role, v.parent, user) && member(a.grants as u64, 0),
+        party.has_member(user) && member(a.grants as u64, 0),
         Refusal::Forbidden,
     )?;
     ensure(!a.revoked, Refusal::Revoked)?;
-    ensure(alive_in(o, v.parent, v.clock), Refusal::Expired)?;
+    ensure(party.lives(v.clock), Refusal::Expired)?;
     ensure(admits(a, at), Refusal::Context)?;
-    ensure(creates_in(o, v.parent), Refusal::Exhausted)?;
+    ensure(party.may_create(), Refusal::Exhausted)?;
     ensure(is_below(made(user, origin, plan), a), Refusal::Exceeds)?;
     ensure(v.count < 256, Refusal::Full)
 }

@@ -13,8 +13,8 @@ use masks::member;
 use model::{Answer, Capability, Context, Named, Origin, Refusal, Role, Session, blank_session};
 use origins::authority::{RoleColumns, granted_by};
 use origins::numbers::{named_range, origin_named};
-use origins::standing::{alive_in, member_in, present_in, usable_in};
-use origins::terms::{admits, allowance_of, in_context};
+use origins::standing::Party;
+use origins::terms::{admits, in_context};
 use slots::counting::used_in;
 use slots::guards::ensure;
 use slots::{Decision, Slots, settle};
@@ -67,10 +67,15 @@ fn permitted(
 ) -> bool
     ensures { result ≡ permits_in tick s x c columns.now permission at }
 {
-    let t = allowance_of(s.on, x, c, granted_by(columns, s.on, c), 0);
-    member_in(s.on, x, c, s.user as u32)
+    let party = Party {
+        origin: s.on,
+        role: &x,
+        capability: &c,
+    };
+    let t = party.allows(granted_by(columns, s.on, c), 0);
+    party.has_member(s.user as u32)
         && !t.revoked
-        && alive_in(s.on, c, tick)
+        && party.lives(tick)
         && member(t.grants as u64, permission)
         && admits(t, at)
 }
@@ -130,21 +135,26 @@ fn open_guards(
 ) -> Result<(), Refusal>
     ensures { guarded result ≡ first_number (opening_tests v o session user on at) }
 {
-    let t = allowance_of(o, v.role, v.capability, 0, 0);
+    let party = Party {
+        origin: o,
+        role: &v.role,
+        capability: &v.capability,
+    };
+    let t = party.allows(0, 0);
     ensure(
         session < 64 && user < 64 && named_range(on) && in_context(at),
         Refusal::Range,
     )?;
     ensure(
-        member(v.enrolled, user) && present_in(o, v.role, v.count),
+        member(v.enrolled, user) && party.present(v.count),
         Refusal::Missing,
     )?;
     ensure(!v.session.active, Refusal::Unchanged)?;
-    ensure(member_in(o, v.role, v.capability, user), Refusal::Forbidden)?;
+    ensure(party.has_member(user), Refusal::Forbidden)?;
     ensure(!t.revoked, Refusal::Revoked)?;
-    ensure(alive_in(o, v.capability, v.clock), Refusal::Expired)?;
+    ensure(party.lives(v.clock), Refusal::Expired)?;
     ensure(admits(t, at), Refusal::Context)?;
-    ensure(usable_in(o, v.capability), Refusal::Exhausted)
+    ensure(party.may_use(), Refusal::Exhausted)
 }
 
 fn new_session(user: u32, o: Origin, at: Context) -> Session
