@@ -12,8 +12,11 @@ pub fn user_keeps(enrolled: u64, u: usize, domain: u8) -> bool
     requires { u < 64 }
     ensures { result ≡ user_keeps enrolled u domain }
 {
-    let there = (enrolled >> u) % 2 == 1;
-    if there { domain < 8 } else { domain == 0 }
+    if (enrolled >> u) % 2 == 1 {
+        domain < 8
+    } else {
+        domain == 0
+    }
 }
 
 // What is kept for a role not founded is 0.
@@ -21,12 +24,12 @@ pub fn user_keeps(enrolled: u64, u: usize, domain: u8) -> bool
 fn is_blank(x: Role) -> bool
     ensures { result ≡ role_blank x }
 {
-    (x.domain == 0)
-        & (x.permissions == 0)
-        & (x.hours == 0)
-        & (x.places == 0)
-        & (x.devices == 0)
-        & (x.appointed == 0)
+    x.domain == 0
+        && x.permissions == 0
+        && x.hours == 0
+        && x.places == 0
+        && x.devices == 0
+        && x.appointed == 0
 }
 
 // The rules of a founded role; peers are the users of its domain.
@@ -34,10 +37,10 @@ fn is_blank(x: Role) -> bool
 fn keeps_all(enrolled: u64, peers: u64, x: Role) -> bool
     ensures { result ≡ each (role_with enrolled peers x) }
 {
-    (x.domain < 8)
-        & (x.hours < 16777216)
-        & (x.appointed & enrolled == x.appointed)
-        & (x.appointed & peers == x.appointed)
+    x.domain < 8
+        && x.hours < 16777216
+        && x.appointed & enrolled == x.appointed
+        && x.appointed & peers == x.appointed
 }
 
 #[tactic(auto, using(masks::proofs::Truth::cond_true, masks::proofs::Truth::cond_false))]

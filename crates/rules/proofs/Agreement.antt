@@ -25,7 +25,8 @@ use Rattle.origins.specs.declared.standing.Party.{Party as PartyRead}
 use Rattle.origins.specs.Standing.{standing}
 use Rattle.origins.specs.Terms.{slot_terms, column_terms}
 use Rattle.entries.specs.Limits.{role_keeps_with, place_with, session_keeps_with}
-use Rattle.rules.specs.Columns.{masked, is_founded, in_domain, BlankFrom}
+use Rattle.entries.specs.declared.capability.Known.{Known}
+use Rattle.rules.specs.Columns.{masked, is_founded, in_domain, BlankFrom, KnownOf}
 use Rattle.rules.specs.Parties.{PartyAt}
 use Rattle.rules.proofs.Laws.{all_below_lem, all_rest, each_under, within-masked}
 
@@ -67,19 +68,20 @@ role_agrees enrolled domains users k x column =
 
 -- ---- a capability
 
-pub place_agrees : (r : Register) (n founded made : ℕ) (column : RoleColumns) (p : PartyRead) (known : Bool) (u : Terms)
+pub place_agrees : (r : Register) (k : Known) (n made : ℕ) (column : RoleColumns) (p : PartyRead) (known : Bool) (u : Terms)
     → PartyAt r (origin_at r.capabilities n) p
-    → founded ≡ masked (is_founded r.roles) 32
+    → KnownOf k r
     → Columns column r.roles
     → known ≡ there r.count (standing p)
     → u ≡ column_terms column p.origin p.role.now p.capability.now
     → made ≡ children r.count r.capabilities n
-    → place_with r.enrolled founded r.count n known u made (capability_at r.capabilities n) ≡ place_keeps r.enrolled r.roles r.count r.capabilities n (capability_at r.capabilities n)
+    → place_with k.enrolled k.founded k.count n known u made (capability_at r.capabilities n) ≡ place_keeps r.enrolled r.roles r.count r.capabilities n (capability_at r.capabilities n)
 unfolding place_with place_keeps capability_keeps in_range all_founded
-place_agrees r n founded made column p known u at at-founded at-column at-known at-u at-made =
-    ap
+place_agrees r k n made column p known u at at-k at-column at-known at-u at-made =
+    rw (at-k.enrolled, at-k.count)
+    (ap
     (λ (b : Bool). cond (ltb n r.count) b (capability_blank c))
-    (each_under (in_range c ∷ []) (rest (within c.lent founded) known u made) (rest (all_founded r.roles c.lent) (exists r.roles r.count c.origin) (terms r.roles r.capabilities c.origin) (children r.count r.capabilities n)) agree)
+    (each_under (in_range c ∷ []) (rest (within c.lent k.founded) known u made) (rest (all_founded r.roles c.lent) (exists r.roles r.count c.origin) (terms r.roles r.capabilities c.origin) (children r.count r.capabilities n)) agree))
   where
     c : Capability
     c = capability_at r.capabilities n
@@ -89,11 +91,11 @@ place_agrees r n founded made column p known u at at-founded at-column at-known 
         a ∷ b ∷ earlier n c.origin ∷ below (claims c) t ∷ eqb c.creations m ∷ leb c.creations c.creation_limit ∷ own_keeps r.enrolled c ∷ []
 
     agree : Each (in_range c ∷ [])
-        → each (rest (within c.lent founded) known u made) ≡ each (rest (all_founded r.roles c.lent) (exists r.roles r.count c.origin) (terms r.roles r.capabilities c.origin) (children r.count r.capabilities n))
+        → each (rest (within c.lent k.founded) known u made) ≡ each (rest (all_founded r.roles c.lent) (exists r.roles r.count c.origin) (terms r.roles r.capabilities c.origin) (children r.count r.capabilities n))
     agree h =
         let named : T (is_origin c.origin) = each_at (range_tests c) h.0 0 in
         ap₂ (λ (a b : Bool). each (rest a b u made))
-        (ap (within c.lent) at-founded ∙ within-masked (is_founded r.roles) 32 c.lent (ltb→lt _ _ (each_at (range_tests c) h.0 3)))
+        (ap (within c.lent) at-k.founded ∙ within-masked (is_founded r.roles) 32 c.lent (ltb→lt _ _ (each_at (range_tests c) h.0 3)))
         (at-known ∙ there-exists r c.origin at named)
         ∙ ap₂ (λ (t : Terms) (m : ℕ). each (rest (all_founded r.roles c.lent) (exists r.roles r.count c.origin) t m))
         (at-u ∙ at.allows column named at-column)

@@ -5,11 +5,11 @@ ghost use Rattle.model.specs.State.{capability_at};
 ghost use Rattle.model.specs.Rules.{place_keeps};
 ghost use Rattle.model.specs.Lineage.{children};
 ghost use Rattle.origins.specs.Authority.{Columns};
-ghost use Rattle.rules.specs.Columns.{is_founded, masked};
+ghost use Rattle.rules.specs.Columns.{KnownOf};
 
 use crate::columns::{bump, founded_roles, places};
 use crate::parties::party_at;
-use entries::capability::keeps_place;
+use entries::capability::{Known, keeps_place};
 use model::Register;
 use origins::authority::{RoleColumns, columns_of};
 
@@ -27,16 +27,16 @@ fn children_counted(r: &Register) -> [u16; 256]
 
 // The rules of place n, from which `made` capabilities were created.
 #[tactic(auto, using(crate::proofs::Agreement::place_agrees))]
-fn place_keeps(r: &Register, columns: &RoleColumns, founded: u64, made: u16, n: usize) -> bool
+fn place_keeps(r: &Register, columns: &RoleColumns, k: Known, made: u16, n: usize) -> bool
     requires { n < 256 }
-    ensures { Columns columns.now r.now.roles → founded ≡ masked (is_founded r.now.roles) 32 → made ≡ children r.now.count r.now.capabilities n
+    ensures { Columns columns.now r.now.roles → KnownOf k r.now → made ≡ children r.now.count r.now.capabilities n
         → result ≡ place_keeps r.now.enrolled r.now.roles r.now.count r.now.capabilities n (capability_at r.now.capabilities n) }
 {
     let c = r.capabilities[n];
     let party = party_at(r, c.origin);
     let there = party.present(r.count);
     let u = party.allows_by(columns);
-    keeps_place(r.enrolled, founded, r.count, n, there, u, made, c)
+    keeps_place(k, n, there, u, made, c)
 }
 
 // The rules of the places below the bound, up to the first that breaks them.
@@ -46,10 +46,14 @@ pub fn capabilities_keep(r: &Register, bound: usize) -> bool
     ensures { r.now.count ≤ 256 → result ≡ all_below bound (λ n. place_keeps r.now.enrolled r.now.roles r.now.count r.now.capabilities n (capability_at r.now.capabilities n)) }
 {
     let columns = columns_of(&r.roles);
-    let founded = founded_roles(&r.roles);
+    let known = Known {
+        enrolled: r.enrolled,
+        founded: founded_roles(&r.roles),
+        count: r.count,
+    };
     let children = children_counted(r);
     for n in 0..bound {
-        if !place_keeps(r, &columns, founded, children[n], n) {
+        if !place_keeps(r, &columns, known, children[n], n) {
             return false;
         }
     }
