@@ -1,10 +1,7 @@
 // What is asked of an origin, a role or a capability alike.
 ghost use Rattle.std.specs.Prelude.{◌≡◌};
-ghost use Rattle.model.specs.declared.Role.{Role as RoleHeld};
-ghost use Rattle.model.specs.declared.Capability.{Capability as CapabilityHeld};
 ghost use Rattle.model.specs.State.{there, has_member, lives, may_use, may_create};
 ghost use Rattle.origins.specs.Standing.{standing};
-ghost use Rattle.origins.specs.Terms.{party_in};
 
 use masks::member;
 use model::{Capability, Origin, Role};
@@ -67,58 +64,5 @@ impl<'a> Party<'a> {
             Origin::Role(_) => true,
             Origin::Capability(_) => self.capability.creations < self.capability.creation_limit,
         }
-    }
-}
-
-// ---- the same over the three arguments, until the calls ask a party
-
-// A role is founded, a capability has been created.
-pub fn present_in(o: Origin, x: Role, count: u16) -> bool
-    ensures { (c : CapabilityHeld) → result ≡ there count (party_in o x c) }
-{
-    match o {
-        Origin::Role(_) => x.founded,
-        Origin::Capability(n) => (n as u16) < count,
-    }
-}
-
-// The user is appointed to the role, or holds the capability.
-pub fn member_in(o: Origin, x: Role, c: Capability, user: u32) -> bool
-    ensures { result ≡ has_member (party_in o x c) user }
-{
-    match o {
-        Origin::Role(_) => member(x.appointed, user),
-        Origin::Capability(n) => member(c.holders, user),
-    }
-}
-
-// The tick is in the life: of a capability from its first tick on and before its last (§3.3.2), of a role always (§3.3.3).
-#[tactic(auto, using(masks::proofs::Truth::left_each))]
-pub fn alive_in(o: Origin, c: Capability, tick: u32) -> bool
-    ensures { (x : RoleHeld) → result ≡ lives (party_in o x c) tick }
-{
-    match o {
-        Origin::Role(_) => true,
-        Origin::Capability(n) => (c.first <= tick) & (tick < c.last),
-    }
-}
-
-// Uses are below their limit; a role counts none.
-pub fn usable_in(o: Origin, c: Capability) -> bool
-    ensures { (x : RoleHeld) → result ≡ may_use (party_in o x c) }
-{
-    match o {
-        Origin::Role(_) => true,
-        Origin::Capability(n) => c.uses < c.use_limit,
-    }
-}
-
-// Creations are below their limit; a role counts none.
-pub fn creates_in(o: Origin, c: Capability) -> bool
-    ensures { (x : RoleHeld) → result ≡ may_create (party_in o x c) }
-{
-    match o {
-        Origin::Role(_) => true,
-        Origin::Capability(n) => c.creations < c.creation_limit,
     }
 }

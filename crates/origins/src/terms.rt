@@ -5,8 +5,8 @@ ghost use Rattle.origins.specs.Terms.{terms_in, slot_terms, column_terms, bare_i
 
 use crate::authority::{RoleColumns, granted_by, lendable_by};
 use crate::standing::Party;
-use masks::member;
-use model::{Capability, Context, Origin, Role, blank_role};
+use masks::{contained, member};
+use model::{Capability, Context, Origin, blank_role};
 
 #[derive(Clone, Copy)]
 pub struct Allowance {
@@ -88,36 +88,12 @@ pub fn bare_allowance(o: Origin, c: Capability) -> Allowance
     party.allows(0, 0)
 }
 
-// ---- the same over the three arguments, until the calls ask a party
-
-pub fn allowance_of(o: Origin, x: Role, c: Capability, grants: u32, lendable: u32) -> Allowance
-    ensures { terms_in result ≡ slot_terms o x c grants lendable }
-{
-    let party = Party {
-        origin: o,
-        role: &x,
-        capability: &c,
-    };
-    party.allows(grants, lendable)
-}
-
-pub fn allowance_in(columns: &RoleColumns, o: Origin, x: Role, c: Capability) -> Allowance
-    ensures { terms_in result ≡ column_terms columns.now o x c }
-{
-    let party = Party {
-        origin: o,
-        role: &x,
-        capability: &c,
-    };
-    party.allows_by(columns)
-}
-
 // Hour, place and device are in their ranges.
 #[tactic(auto, using(masks::proofs::Truth::left_each), unfolding(model::specs::State::in_context))]
 pub fn in_context(at: Context) -> bool
     ensures { result ≡ in_context at }
 {
-    (at.hour < 24) & (at.place < 16) & (at.device < 16)
+    at.hour < 24 && at.place < 16 && at.device < 16
 }
 
 // All three masks have the context's bit.
@@ -125,10 +101,9 @@ pub fn in_context(at: Context) -> bool
 pub fn admits(t: Allowance, at: Context) -> bool
     ensures { result ≡ admitted (terms_in t) at }
 {
-    let hour = member(t.hours as u64, at.hour);
-    let place = member(t.places as u64, at.place);
-    let device = member(t.devices as u64, at.device);
-    hour & place & device
+    member(u64::from(t.hours), at.hour)
+        && member(u64::from(t.places), at.place)
+        && member(u64::from(t.devices), at.device)
 }
 
 // What a capability claims is within what its origin allows.
@@ -136,15 +111,15 @@ pub fn admits(t: Allowance, at: Context) -> bool
 pub fn is_below(c: Capability, t: Allowance) -> bool
     ensures { result ≡ below (claims c) (terms_in t) }
 {
-    (c.permissions & t.grants == c.permissions)
-        & (c.lent & t.lendable == c.lent)
-        & (c.hours & t.hours == c.hours)
-        & (c.places & t.places == c.places)
-        & (c.devices & t.devices == c.devices)
-        & (t.first <= c.first)
-        & (c.last <= t.last)
-        & (c.use_limit <= t.use_limit)
-        & (c.creation_limit <= t.creation_limit)
-        & (c.hop_limit <= t.hop_limit)
-        & (!t.revoked | c.revoked)
+    contained(c.permissions, t.grants)
+        && contained(c.lent, t.lendable)
+        && contained(c.hours, t.hours)
+        && contained(u32::from(c.places), u32::from(t.places))
+        && contained(u32::from(c.devices), u32::from(t.devices))
+        && t.first <= c.first
+        && c.last <= t.last
+        && c.use_limit <= t.use_limit
+        && c.creation_limit <= t.creation_limit
+        && c.hop_limit <= t.hop_limit
+        && (!t.revoked || c.revoked)
 }
