@@ -6,47 +6,23 @@ ghost use Rattle.model.specs.Rules.{well_formed};
 ghost use Rattle.model.specs.Calls.{settled, step};
 ghost use Rattle.model.specs.Requests.{effect_of, call_of, local_call, tree_call};
 
-use dispatch::{decide, order_of};
+use dispatch::{order_of, perform};
 use model::{LocalRequest, Refusal, Register, Reply, Request, TreeRequest};
 use origins::authority::columns_of;
-use places::{capability_at, names_of, parent_at, role_at, seen, session_at, user_at};
 use rules::well_formed;
-use slots::Decision;
 use sweeps::sweep_all;
 use tree::orders::Order;
 
-// A call that changes only elements that it names: they are read, decided and put back. Where the parent stands at the capability's
-// place, the capability stays.
-#[tactic(auto, using(dispatch::proofs::Commits::commit), unfolding(slots::specs::Slots::put))]
-fn apply_local(r: Register, q: LocalRequest) -> Reply
+// A call that changes only elements that it names.
+fn apply_local(mut r: Register, q: LocalRequest) -> Reply
     requires { T (well_formed r) }
     ensures { effect_of result ≡ settled r (local_call q) }
 {
     let columns = columns_of(&r.roles);
-    let names = names_of(q);
-    let user = user_at(names);
-    let session = session_at(names);
-    let s = r.sessions[session];
-    let capability = capability_at(names, s, r.count);
-    let c = r.capabilities[capability];
-    let role = role_at(names, s, c);
-    let x = r.roles[role];
-    let parent = parent_at(names, c);
-    let p = r.capabilities[parent];
-    let v = seen(r.clock, r.enrolled, r.count, r.domains[user], x, p, c, s);
-    let Decision { answer, slots } = decide(v, &columns, q);
-    let mut next = r;
-    next.clock = slots.clock;
-    next.enrolled = slots.enrolled;
-    next.count = slots.count;
-    next.domains[user] = slots.domain;
-    next.roles[role] = slots.role;
-    next.capabilities[parent] = slots.parent;
-    next.capabilities[capability] = slots.capability;
-    next.sessions[session] = slots.session;
+    let answer = perform(&mut r, &columns, q);
     Reply {
         answer,
-        register: next,
+        register: r,
     }
 }
 

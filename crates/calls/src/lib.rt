@@ -1,4 +1,5 @@
-// The seventeen calls over the register by value: the whole reply is what the definitions say, refusal 15 included.
+// The seventeen calls over the register by value: the whole reply is what the definitions say, refusal 15 included. Each names the
+// request that it makes: `into()` in place of `Request::Local(..)` would be no plainer, since it hides to which family a call goes.
 #![tactic(auto)]
 
 ghost use Rattle.std.specs.Prelude.{◌≡◌};

@@ -1,7 +1,11 @@
 -- Intermediate: the code's own terms, proved to come to the definitions of `model`.
 -- A request decided over the elements that it names.
+use Rattle.std.specs.Prelude.{ℕ, Result}
+use Rattle.model.specs.declared.Refusal.{Refusal}
+use Rattle.model.specs.declared.Register.{Register}
 use Rattle.model.specs.declared.LocalRequest.{LocalRequest}
 use Rattle.model.specs.declared.LocalRequest.TheVariants.{Enrol, Found, Grant, Appoint, Dismiss, Clock, Create, Allow, Lend, Hand, Open, Check, Close}
+use Rattle.model.specs.Requests.{outcome_of}
 use Rattle.model.specs.Rulings.{Effect}
 use Rattle.origins.specs.declared.authority.RoleColumns.{RoleColumns}
 use Rattle.slots.specs.declared.Slots.{Slots}
@@ -25,3 +29,7 @@ decide_of v column (Hand user receiver capability) = hand_decision v user receiv
 decide_of v column (Open session user on at) = open_decision v session user on at
 decide_of v column (Check session permission at) = check_decision v column session permission at
 decide_of v column (Close session) = close_decision v session
+
+-- the register and the answer that a request leaves
+abbrev pub performed : Result ℕ Refusal → Register → Effect Register
+performed answer r = record { answer = outcome_of answer; after = r }
