@@ -8,8 +8,10 @@ use native.Mathlib.Numerals.{add-one}
 use native.Mathlib.Omega.{arith}
 use lib.ListN.{length, drop, get_or, length-drop, drop_of_length-le}
 use lib.Seq.{drop-cons}
-use Rattle.model.specs.Fields.{bit}
-use Rattle.model.specs.Image.{mask_where, chosen, write_chosen}
+use Rattle.model.specs.declared.Capability.{Capability}
+use Rattle.model.specs.State.{blank_capability}
+use Rattle.model.specs.Fields.{bit, write_capability}
+use Rattle.model.specs.Image.{mask_where, chosen, write_chosen, write_capabilities}
 
 -- ---- the mask of the items that pass
 
@@ -30,6 +32,10 @@ module _ {A : Type 0} (write : A → List ℕ) where
 
   pub chosen_done : (m : ℕ) (l : List A) (i : ℕ) → length l ≤ i → write_chosen write m (drop i l) ≡ []
   chosen_done m l i h = ap (write_chosen write m) (drop_of_length-le l h)
+
+pub capabilities-step : (cs : List Capability) (i : ℕ) → i < length cs
+    → write_capabilities (drop i cs) ≡ write_capability (get_or cs i blank_capability) ++ write_capabilities (drop (i + 1) cs)
+capabilities-step cs i h = rw (add-one, drop-cons cs i blank_capability)
 
 pub chosen-set : (b : ℕ) (s : List ℕ) → (b ≡ 0 → ⊥) → chosen b s ≡ s
 chosen-set zero s h = absurd (h refl)

@@ -9,8 +9,8 @@ use Rattle.masks.specs.Bytes.{bytes_of, map_bytes, front}
 use Rattle.model.specs.declared.Capability.{Capability}
 use Rattle.model.specs.declared.Register.{Register}
 use Rattle.model.specs.Fields.{write_role, write_session}
-use Rattle.model.specs.Image.{write_chosen, write_capabilities, founded_roles, active_sessions, encode}
-use Rattle.encoding.specs.Sections.{mapped, counted_capabilities}
+use Rattle.model.specs.Image.{mask_where, write_chosen, write_capabilities, founded_roles, active_sessions, encode}
+use Rattle.encoding.specs.Sections.{mapped, counted_capabilities, is_founded, is_active}
 use Rattle.fields.proofs.Numbers.{length-bytes, length-map}
 use Rattle.fields.proofs.Parts.{parts_written}
 use Rattle.fields.proofs.Putting.{Put}
@@ -48,16 +48,16 @@ module _ (r : Register) where
   users_bytes = mapped 8 (bytes_of 1) r.enrolled r.domains
 
   abbrev pub roles_bytes : List ℕ
-  roles_bytes = mapped 4 write_role (founded_roles r.roles) r.roles
+  roles_bytes = mapped 4 write_role (mask_where is_founded r.roles) r.roles
 
   abbrev pub capabilities_bytes : List ℕ
   capabilities_bytes = counted_capabilities r.count r.capabilities
 
   abbrev pub sessions_bytes : List ℕ
-  sessions_bytes = mapped 8 write_session (active_sessions r.sessions) r.sessions
+  sessions_bytes = mapped 8 write_session (mask_where is_active r.sessions) r.sessions
 
   pub encode_sections : encode r ≡ bytes_of 4 r.clock ++ (users_bytes ++ (roles_bytes ++ (capabilities_bytes ++ sessions_bytes)))
-  unfolding encode mapped counted_capabilities
+  unfolding encode founded_roles active_sessions mapped counted_capabilities
   encode_sections = sym (simp append_assoc)
 
   abbrev pub sections_size_lem : ℕ
