@@ -4,7 +4,6 @@ use mathlib.Core.List.{List}
 use Prim.Native.Nat.{ℕ, zero, suc, ◌+◌}
 use lib.ListN.{drop}
 use lib.Seq.{drop-drop}
-use Rattle.masks.specs.Bytes.{number_of, first_bytes}
 use Rattle.model.specs.declared.Role.{Role}
 use Rattle.model.specs.declared.Capability.{Capability}
 use Rattle.model.specs.declared.Session.{Session}
@@ -24,9 +23,6 @@ after_section s w v k at m next em en =
     drop-drop (w + chosen_length v (map_at w (drop at s)) k) at s
     ∙ ap (λ (x : ℕ). drop (at + (w + chosen_length v x k)) s) (sym em)
     ∙ ap (λ (x : ℕ). drop x s) (sym en)
-
-abbrev pub read_domain : List ℕ → ℕ
-read_domain t = number_of (first_bytes 1 t)
 
 -- ---- a register of its parts
 

@@ -23,7 +23,8 @@ use Rattle.model.proofs.EmptyImage.{empty_image}
 use Rattle.image.specs.Laws.{ImageOf, ImageLaws}
 use Rattle.fields.proofs.Numbers.{map_item, same_refl}
 use Rattle.encoding.proofs.Lengths.{image_small}
-use Rattle.decoding.proofs.Decoding.{read_domain, same_register}
+use Rattle.decoding.specs.Exact.{read_domain}
+use Rattle.decoding.proofs.Decoding.{same_register}
 use Rattle.image.proofs.RoundTrip.{decode_parts, back, image-length}
 
 -- ---- what is accepted
