@@ -12,12 +12,12 @@ ghost use Rattle.records.specs.Exact.{exact_session, exact_capabilities, capabil
 ghost use Rattle.decoding.specs.Exact.{exact_sessions, exact_image, read_domain};
 
 use fields::field::if_set;
-use fields::number::{byte_at, byte_count, get_at, get_map};
+use fields::number::{byte_at, get_at, get_map};
 use model::{Capability, Register, Role, Session, blank_role, blank_session, fresh};
 use records::reader::{read_capability, read_role, read_session};
 
 // What a section with a map holds: items of so many bytes each, blank where the map has no bit.
-trait Record: Copy {
+trait Decode: Copy {
     const WIDTH: usize;
 
     ghost WIDTH: { ℕ };
@@ -31,14 +31,14 @@ trait Record: Copy {
 
     // The item at `at`. Bytes past the end are 0.
     fn read(s: &[u8], at: usize) -> Self
-        requires { (at < 60000) × Bytes s.now }
+        requires { at < 60000 }
         ensures { result ≡ meaning (drop at s.now) };
 
     ghost narrow: { WIDTH ≤ 20 };
 }
 
 // A user's domain byte.
-impl Record for u8 {
+impl Decode for u8 {
     const WIDTH: usize = 1;
 
     ghost WIDTH = { 1 };
@@ -58,7 +58,7 @@ impl Record for u8 {
     }
 }
 
-impl Record for Role {
+impl Decode for Role {
     const WIDTH: usize = 20;
 
     ghost WIDTH = { 20 };
@@ -78,7 +78,7 @@ impl Record for Role {
     }
 }
 
-impl Record for Session {
+impl Decode for Session {
     const WIDTH: usize = 6;
 
     ghost WIDTH = { 6 };
@@ -99,16 +99,16 @@ impl Record for Session {
 }
 
 // The item at `at` where the bit is set, else the blank one.
-fn read_if<T: Record>(s: &[u8], at: usize, bit: u64) -> T
-    requires { (at < 60000) × Bytes s.now }
+fn read_if<T: Decode>(s: &[u8], at: usize, bit: u64) -> T
+    requires { at < 60000 }
     ensures { result ≡ item_or T.blank T.meaning bit (drop at s.now) }
 {
     if bit == 0 { T::blank() } else { T::read(s, at) }
 }
 
 // Reads the items of a mask from `from` on, as many as there are rows; where they end.
-fn read_chosen<T: Record>(s: &[u8], from: usize, mask: u64, rows: &mut [T]) -> usize
-    requires { (from < 50000) × (length rows.old ≤ 64) × Bytes s.now }
+fn read_chosen<T: Decode>(s: &[u8], from: usize, mask: u64, rows: &mut [T]) -> usize
+    requires { (from < 50000) × (length rows.old ≤ 64) }
     ensures { (rows.new ≡ read_chosen T.blank T.meaning T.WIDTH mask (length rows.old) (drop from s.now)) × (result ≡ from + chosen_length T.WIDTH mask (length rows.old)) × (result ≤ from + 1280) }
 {
     let mut at = from;
@@ -150,7 +150,7 @@ fn sessions_exact(s: &[u8], from: usize, mask: u64) -> bool
 
 // Reads capabilities from `from` on, as many as there are rows; whether each is written exactly so, and where they end.
 fn read_capabilities(s: &[u8], from: usize, rows: &mut [Capability]) -> (bool, usize)
-    requires { (from < 30000) × (length rows.old ≤ 256) × Bytes s.now }
+    requires { (from < 30000) × (length rows.old ≤ 256) }
     ensures rows { rows.new ≡ read_capabilities (length rows.old) (drop from s.now) }
     ensures exact { result.0 ≡ exact_capabilities (length rows.old) (drop from s.now) }
     ensures end { (result.1 ≡ from + capabilities_length (length rows.old) (drop from s.now)) × (result.1 ≤ from + 12288) }
@@ -176,7 +176,7 @@ struct Counted {
 
 // Reads the count at `from` and as many capabilities, but no more than there are rows, of which the others stay.
 fn read_counted(s: &[u8], from: usize, rows: &mut [Capability]) -> Counted
-    requires { (from < 20000) × (length rows.old ≡ 256) × Bytes s.now }
+    requires { (from < 20000) × (length rows.old ≡ 256) }
     ensures count { result.count ≡ number_of (first_bytes 2 (drop from s.now)) }
     ensures rows { rows.new ≡ read_capabilities (min 256 result.count) (drop (from + 2) s.now) ++ drop (min 256 result.count) rows.old }
     ensures exact { result.exact ≡ exact_capabilities (min 256 result.count) (drop (from + 2) s.now) }
@@ -200,7 +200,6 @@ pub struct ReadImage {
 pub fn read_image(s: &[u8]) -> ReadImage
     ensures { (result.register ≡ decode s.now) × (result.exact ≡ exact_image s.now) × Bytes s.now }
 {
-    let _length = byte_count(s);
     let mut r = fresh();
     r.clock = get_at(s, 0, 4) as u32;
     r.enrolled = get_map(s, 4, 8);

@@ -2,9 +2,8 @@
 #![tactic(auto)]
 
 ghost use Rattle.std.specs.Prelude.{◌≡◌, ◌≤◌, length};
-ghost use Rattle.masks.specs.Bytes.{front};
 ghost use Rattle.model.specs.Image.{encode};
-ghost use Rattle.encoding.specs.Sections.{counted_capabilities};
+ghost use Rattle.encoding.specs.Sections.{Puts, counted_capabilities};
 
 use crate::section::{mask_of, put_capabilities, put_mapped};
 use fields::number::put;
@@ -17,7 +16,7 @@ mod section;
 #[tactic(auto, using(crate::proofs::Whole::counted_size, crate::proofs::Whole::counted_written))]
 fn put_counted(s: &mut [u8], count: usize, capabilities: &[Capability]) -> usize
     requires { (count ≤ length capabilities.now) × (length (counted_capabilities count capabilities.now) ≤ length s.old) }
-    ensures { (result ≡ length (counted_capabilities count capabilities.now)) × (s.new ≡ front (counted_capabilities count capabilities.now) s.old) }
+    ensures { Puts (counted_capabilities count capabilities.now) result s.old s.new }
 {
     put(s, 2, count as u64);
     2 + put_capabilities(&mut s[2..], &capabilities[..count])
@@ -27,7 +26,7 @@ fn put_counted(s: &mut [u8], count: usize, capabilities: &[Capability]) -> usize
 #[tactic(auto, using(crate::proofs::Whole::sections_size))]
 pub fn put_image(s: &mut [u8], r: Register) -> usize
     requires { (r.count ≤ 256) × (length (encode r) ≤ length s.old) }
-    ensures { (result ≡ length (encode r)) × (s.new ≡ front (encode r) s.old) }
+    ensures { Puts (encode r) result s.old s.new }
 {
     put(s, 4, u64::from(r.clock));
     let roles_at = 4 + put_mapped(&mut s[4..], 8, r.enrolled, &r.domains);

@@ -6,4 +6,4 @@ use Rattle.decoding.proofs.read_counted.Goals as goal
 pub overflow_cast-count : goal.overflow_cast-count
 overflow_cast-count c =
     let a = c.args in
-    omega (arith, number_small 2 (drop a.from a.s.now) (bytes_drop a.from a.s.now (search)), c.get_at-count.ensures)
+    omega (arith, number_small 2 (drop a.from a.s.now) (bytes_drop a.from a.s.now (λ i. omega (arith, c.type_inv.s i))), c.get_at-count.ensures)

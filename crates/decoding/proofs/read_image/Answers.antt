@@ -14,7 +14,7 @@ use Rattle.decoding.proofs.read_image.Goals as goal
 pub overflow_cast-r : goal.overflow_cast-r
 overflow_cast-r c =
     let s = c.args.s.now in
-    omega (arith, number_small 4 (drop 0 s) (bytes_drop 0 s (search)), c.get_at.ensures)
+    omega (arith, number_small 4 (drop 0 s) (bytes_drop 0 s (λ i. omega (arith, c.type_inv.s i))), c.get_at.ensures)
 
 pub returns : goal.returns
 returns c =
@@ -36,5 +36,5 @@ returns c =
       rest_exact s ca n (min 256 n) at active.result counted.count refl counted.after active.ensures (length s) c.read_chosen-end.result _ _
           counted.exact counted.end.0 c.sessions_exact.ensures sessions.1
           ∙ image_exact s _ ra _ ca enrolled.ensures users.1 founded.ensures roles.1,
-      c.byte_count-length.ensures.1,
+      λ i. omega (arith, c.type_inv.s i),
     )
