@@ -22,7 +22,6 @@ use slots::terms::origin_allows;
 use slots::{Decision, Slots, settle};
 
 // The numbers of a request are in their ranges; the first tick is at most the last.
-#[tactic(auto, using(masks::proofs::Truth::left_each))]
 fn in_ranges(user: u32, origin: Named, at: Context, plan: Plan) -> bool
     ensures { result ≡ each (create_ranges user (named_origin origin) at plan) }
 {
@@ -99,7 +98,6 @@ fn create_guards(
 }
 
 // The slot `role` or `parent` is the origin, the slot `capability` the place of the new capability.
-#[tactic(auto, using(model::proofs::Settling::passed, origins::proofs::Laws::named_exact, slots::proofs::GuardLaws::raised_below, slots::proofs::CountLaws::created_below, crate::proofs::Laws::create_agrees, crate::proofs::Laws::made_exact), unfolding(crate::specs::Creation::create_decision))]
 pub fn decide_create(
     v: Slots,
     columns: &RoleColumns,

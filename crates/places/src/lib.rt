@@ -63,7 +63,7 @@ pub fn names_of(q: LocalRequest) -> Names
 {
     match q {
         LocalRequest::Enrol(user, _) => Names { user, ..NOTHING },
-        LocalRequest::Found(role, _, _, _, _) | LocalRequest::Grant(role, _) => Names {
+        LocalRequest::Found(role, ..) | LocalRequest::Grant(role, _) => Names {
             role,
             follow: Follow::Role,
             ..NOTHING
@@ -75,7 +75,7 @@ pub fn names_of(q: LocalRequest) -> Names
             ..NOTHING
         },
         LocalRequest::Clock(_) => NOTHING,
-        LocalRequest::Create(_, o, _, _) => Names {
+        LocalRequest::Create(_, o, ..) => Names {
             role: role_in(o),
             parent: capability_in(o),
             follow: Follow::Count,

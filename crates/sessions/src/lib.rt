@@ -55,7 +55,7 @@ fn check_guards(s: Session, session: u32, permission: u32, at: Context) -> Resul
 }
 
 // What check answers yes by: of the session, and of the role or the capability that it is on.
-#[tactic(auto, using(masks::proofs::Truth::left_each), unfolding(crate::specs::Sessions::permits_in))]
+#[tactic(auto, unfolding(crate::specs::Sessions::permits_in))]
 fn permitted(
     tick: u32,
     s: Session,
@@ -170,7 +170,6 @@ fn new_session(user: u32, o: Origin, at: Context) -> Session
     }
 }
 
-#[tactic(auto, using(model::proofs::Settling::passed, origins::proofs::Laws::named_exact, crate::proofs::Commits::session_ranged), unfolding(crate::specs::Sessions::open_decision))]
 pub fn decide_open(v: Slots, session: u32, user: u32, on: Named, at: Context) -> Decision
     ensures { ruled_of result ≡ open_decision v session user on at }
 {

@@ -4,13 +4,12 @@ use mathlib.Core.Bool.{Bool, true, false, cond, not}
 use mathlib.Core.List.{List, [], ◌∷◌}
 use Prim.Native.Nat.{ℕ, suc, ◌<◌}
 use native.Mathlib.Omega.{arith}
-use lib.Dec.{T, ltb, ltb→lt, lit<}
+use lib.Dec.{T, ltb, ltb→lt}
 use Rattle.std.specs.Prelude.{⊤, Result, Ok, Err}
 use Rattle.std.specs.Int.{from_bool}
 use Rattle.masks.specs.Tests.{each}
 use Rattle.masks.proofs.Truth.{T→true, and_l, and_r}
 use Rattle.model.specs.declared.Refusal.{Refusal}
-use Rattle.model.specs.declared.Refusal.TheVariants.{Malformed, Range, Missing, Unchanged, Domain, Forbidden, Revoked, Expired, Context, Exhausted, Exceeds, Full, Past, Image, Broken, Room}
 use Rattle.model.specs.Rulings.{Outcome, value, refused, Guard, ◌unless◌, applies, number, settle, Fact, Clear, verdict}
 use Rattle.model.specs.Requests.{refusal_number}
 use Rattle.model.proofs.Settling.{fact, clear_verdict, clear_settle, answer_refused}
@@ -28,22 +27,7 @@ ranged_same m ts gs hs h = cases (each ts) h
 -- ---- what a decision comes to
 
 refusal_positive : (why : Refusal) → 0 < refusal_number why
-refusal_positive Malformed = lit< tt
-refusal_positive Range = lit< tt
-refusal_positive Missing = lit< tt
-refusal_positive Unchanged = lit< tt
-refusal_positive Domain = lit< tt
-refusal_positive Forbidden = lit< tt
-refusal_positive Revoked = lit< tt
-refusal_positive Expired = lit< tt
-refusal_positive Context = lit< tt
-refusal_positive Exhausted = lit< tt
-refusal_positive Exceeds = lit< tt
-refusal_positive Full = lit< tt
-refusal_positive Past = lit< tt
-refusal_positive Image = lit< tt
-refusal_positive Broken = lit< tt
-refusal_positive Room = lit< tt
+refusal_positive why = grind arith
 
 first_refused : (gs : List Guard) (n m : ℕ) → 0 < m → first_number gs ≡ m → verdict gs n ≡ refused m
 unfolding first_number

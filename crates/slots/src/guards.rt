@@ -13,7 +13,7 @@ pub fn ensure(holds: bool, why: Refusal) -> Result<(), Refusal>
 }
 
 // One more, below a limit.
-#[tactic(auto, using(masks::proofs::Truth::cond_true, masks::proofs::Truth::cond_false), unfolding(crate::specs::Guards::raised_of))]
+#[tactic(auto, unfolding(crate::specs::Guards::raised_of))]
 pub fn raised(x: u16, limit: u16) -> u16
     ensures { result ≡ raised_of x limit }
 {
