@@ -4,6 +4,7 @@ ghost use Rattle.masks.specs.Tests.{each};
 ghost use Rattle.model.specs.Rules.{user_keeps, role_blank};
 ghost use Rattle.entries.specs.Limits.{role_with, role_keeps_with};
 
+use masks::member;
 use model::Role;
 
 // A user is of a domain once enrolled, and of domain 0 before.
@@ -12,7 +13,7 @@ pub fn user_keeps(enrolled: u64, u: usize, domain: u8) -> bool
     requires { u < 64 }
     ensures { result ≡ user_keeps enrolled u domain }
 {
-    if (enrolled >> u) % 2 == 1 {
+    if member(enrolled, u as u32) {
         domain < 8
     } else {
         domain == 0

@@ -43,11 +43,8 @@ pub fn bump(table: &mut [u16; 256], o: Origin)
     requires { get_or table.old (capability_held o) 0 < 256 }
     ensures { table.new ≡ bumped table.old o }
 {
-    match o {
-        Origin::Role(_) => {}
-        Origin::Capability(k) => {
-            table[k as usize] += 1;
-        }
+    if let Origin::Capability(k) = o {
+        table[usize::from(k)] += 1;
     }
 }
 
@@ -55,5 +52,5 @@ pub fn bump(table: &mut [u16; 256], o: Origin)
 pub fn places(count: u16) -> usize
     ensures { (result ≤ 256) × (count ≤ 256 → result ≡ count) }
 {
-    if count <= 256 { count as usize } else { 256 }
+    usize::from(count.min(256))
 }

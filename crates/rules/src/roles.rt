@@ -8,7 +8,7 @@ use crate::columns::domain_users;
 use entries::roles::{role_keeps, user_keeps};
 use model::Role;
 
-#[tactic(auto, using(crate::proofs::Laws::all_more), unfolding(masks::specs::Tests::all_below))]
+#[tactic(auto, using(crate::proofs::Laws::all_more, crate::proofs::Laws::all_done), unfolding(masks::specs::Tests::all_below))]
 pub fn users_keep(enrolled: u64, domains: &[u8; 64]) -> bool
     ensures { result ≡ all_below 64 (λ u. user_keeps enrolled u (get_or domains.now u 0)) }
 {
@@ -19,7 +19,7 @@ pub fn users_keep(enrolled: u64, domains: &[u8; 64]) -> bool
     ok
 }
 
-#[tactic(auto, using(crate::proofs::Laws::all_more, crate::proofs::Agreement::role_agrees), unfolding(masks::specs::Tests::all_below))]
+#[tactic(auto, using(crate::proofs::Laws::all_more, crate::proofs::Laws::all_done, crate::proofs::Agreement::role_agrees), unfolding(masks::specs::Tests::all_below))]
 pub fn roles_keep(enrolled: u64, domains: &[u8; 64], roles: &[Role; 32]) -> bool
     ensures { result ≡ all_below 32 (λ k. role_keeps enrolled domains.now k (role_at roles.now k)) }
 {

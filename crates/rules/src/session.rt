@@ -8,7 +8,7 @@ use crate::parties::party_at;
 use entries::session::session_keeps;
 use model::Register;
 
-#[tactic(auto, using(crate::proofs::Laws::all_more, crate::proofs::Agreement::session_agrees), unfolding(masks::specs::Tests::all_below))]
+#[tactic(auto, using(crate::proofs::Laws::all_more, crate::proofs::Laws::all_done, crate::proofs::Agreement::session_agrees), unfolding(masks::specs::Tests::all_below))]
 pub fn sessions_keep(r: &Register) -> bool
     ensures { result ≡ all_below 64 (λ n. session_keeps r.now.enrolled r.now.roles r.now.count r.now.capabilities n (session_at r.now.sessions n)) }
 {

@@ -1,8 +1,5 @@
 use mathlib.Core.Bool.{◌&&◌}
 use mathlib.Core.Path.{ap, ◌∙◌}
-use native.Mathlib.Omega.{arith}
-use Rattle.masks.specs.Tests.{all_below}
-use Rattle.model.specs.Rules.{role_keeps}
 use Rattle.model.specs.State.{role_at}
 use Rattle.rules.proofs.Laws.{all_more}
 use Rattle.rules.proofs.Agreement.{role_agrees}
@@ -15,8 +12,3 @@ loop-x-preserved c =
     all_more l.x-index _ l.invariant
     (ap (λ t. l.ok && t)
     (c.role_keeps-ok.ensures ∙ role_agrees a.enrolled a.domains.now c.domain_users-users.result l.x-index (role_at a.roles.now l.x-index) c.domain_users-users.ensures))
-
-pub returns : goal.returns
-returns c =
-    let a = c.args in
-    c.loop-x.invariant ∙ ap (λ n. all_below n (λ k. role_keeps a.enrolled a.domains.now k (role_at a.roles.now k))) {x = c.loop-x.x-index} {y = 32} (omega arith)
