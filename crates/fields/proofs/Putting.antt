@@ -1,17 +1,17 @@
 -- Loops that write items one after another: one law for what such a loop owes, over the function that writes one item.
 use mathlib.Core.Path.{◌≡◌}
-use mathlib.Core.List.{List, [], ◌++◌}
+use mathlib.Core.List.{List, ◌++◌}
 use Prim.Native.Nat.{ℕ, ◌+◌, ◌-◌, ◌/◌, ◌%◌, ◌≤◌, ◌<◌}
 use native.Mathlib.Numerals.{add-one}
 use native.Mathlib.Omega.{arith}
-use lib.ListN.{length, take, drop, get_or, drop_of_length-le}
+use lib.ListN.{length, take, drop, get_or}
 use lib.Seq.{drop-cons}
 use borrow.Rule.Slice.PartMut.{put_mid}
 use Rattle.masks.specs.Bytes.{front}
 use Rattle.fields.specs.declared.coding.Coding.{Coding}
 use Rattle.fields.specs.Codes.{coding_of, codings, write_bit, write_marked}
 use Rattle.fields.proofs.Codes.{codings_turn}
-use Rattle.fields.proofs.Writing.{Writing, writing_start, writing_fits, writing_within, writing_step, writing_done}
+use Rattle.fields.proofs.Writing.{Writing, writing_fits, writing_within, writing_step}
 
 -- the n bytes xs are written at the front of the part from `at` on, which is `last` after it
 abbrev pub Put : (xs : List ℕ) (at : ℕ) (s : List ℕ) (n : ℕ) (last : List ℕ) → Type 0
@@ -40,11 +40,6 @@ pub record FieldsTo (map : ℕ) (cs : List Coding) (values s₀ s : List ℕ) (b
   pub room : length (write_marked map (codings cs) values) ≤ length s₀
   pub writing : Writing (write_marked map (codings cs) values) (write_marked bits (codings (drop i cs)) (drop i values)) at s s₀
 
-pub fields_start : {map : ℕ} {cs : List Coding} {values s : List ℕ} → length cs ≡ length values → length (write_marked map (codings cs) values) ≤ length s
-    → FieldsTo map cs values s s map 0 0
-fields_start {map} {cs} {values} {s} e h =
-    record { amount = e; room = h; writing = writing_start (write_marked map (codings cs) values) s }
-
 module _ {map : ℕ} {cs : List Coding} {values s₀ s : List ℕ} {bits at i : ℕ} (f : FieldsTo map cs values s₀ s bits at i) where
   module _ (d : Coding) (h : i < length cs) where
     abbrev field : List ℕ
@@ -59,8 +54,3 @@ module _ {map : ℕ} {cs : List Coding} {values s₀ s : List ℕ} {bits at i : 
     pub fields_step : {n : ℕ} {last : List ℕ} → Put field at s n last → length (put_mid at (length s - at) s last) ≡ length s
         → FieldsTo map cs values s₀ (put_mid at (length s - at) s last) (bits / 2) (at + n) (i + 1)
     fields_step p same = record { amount = f.amount; room = f.room; writing = fields_turn.step p same }
-
-  pub fields_done : length cs ≤ i → (at ≡ length (write_marked map (codings cs) values)) × (s ≡ front (write_marked map (codings cs) values) s₀)
-  fields_done h =
-      let left : write_marked bits (codings (drop i cs)) (drop i values) ≡ [] = rw (drop_of_length-le cs h) in
-      writing_done (write_marked map (codings cs) values) _ at s s₀ f.writing left

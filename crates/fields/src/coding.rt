@@ -16,6 +16,7 @@ pub enum Coding {
 
 impl Coding {
     // The bytes of a field.
+    #[inline(always)]
     pub(crate) fn width(self) -> usize
         ensures { result ≡ width (coding_of self) }
     {
@@ -26,6 +27,7 @@ impl Coding {
     }
 
     // Writes a field at the front of s; the bytes written.
+    #[inline(always)]
     #[tactic(auto, using(crate::proofs::Numbers::lengths))]
     fn put(self, s: &mut [u8], v: u64) -> usize
         requires { length (written (coding_of self) v) ≤ length s.old }
@@ -41,6 +43,7 @@ impl Coding {
     }
 
     // Writes a field where its bit of the map is set; the bytes written.
+    #[inline(always)]
     pub(crate) fn put_if(self, bit: u64, s: &mut [u8], v: u64) -> usize
         requires { length (write_bit bit (coding_of self) v) ≤ length s.old }
         ensures { (result ≡ length (write_bit bit (coding_of self) v)) × (s.new ≡ front (write_bit bit (coding_of self) v) s.old) }
@@ -49,6 +52,7 @@ impl Coding {
     }
 
     // The field at `at`. Bytes past the end are 0.
+    #[inline(always)]
     fn read(self, s: &[u8], at: usize) -> u64
         requires { (at < 65536) × (width (coding_of self) ≤ 8) }
         ensures { result ≡ read_field (coding_of self) (drop at s.now) }
@@ -61,6 +65,7 @@ impl Coding {
     }
 
     // The field at `at` where its bit of the map is set, else 0.
+    #[inline(always)]
     pub(crate) fn read_if(self, bit: u64, s: &[u8], at: usize) -> u64
         requires { (at < 65536) × (width (coding_of self) ≤ 8) }
         ensures { result ≡ read_set bit (coding_of self) (drop at s.now) }

@@ -76,7 +76,19 @@ fn padded(s: &[u8], at: usize) -> [u8; 8]
     bytes
 }
 
-// What `read` makes of the k bytes from `at` on. Bytes past the end are 0; of an image there are none, so the end is asked for once.
+// What `read` makes of the k bytes from `at` on, 0 for each past the end.
+#[cold]
+#[inline(never)]
+fn read_past<F: Fn(&[u8]) -> u64>(s: &[u8], at: usize, k: usize, read: F) -> u64
+    requires here { (at < 65536) × (k ≤ 8) }
+    requires reads { (part : _) → length part.now ≤ 8 → F.pre read part }
+    ensures { FnReturnsAt F.Fn read (first_bytes k (drop at s.now)) result }
+{
+    read(&padded(s, at)[..k])
+}
+
+// The same. Of an image no bytes are past the end, so the end is asked for once.
+#[inline(always)]
 fn read_at<F: Fn(&[u8]) -> u64>(s: &[u8], at: usize, k: usize, read: F) -> u64
     requires here { (at < 65536) × (k ≤ 8) }
     requires reads { (part : _) → length part.now ≤ 8 → F.pre read part }
@@ -85,7 +97,7 @@ fn read_at<F: Fn(&[u8]) -> u64>(s: &[u8], at: usize, k: usize, read: F) -> u64
     if at + k <= s.len() {
         read(&s[at..at + k])
     } else {
-        read(&padded(s, at)[..k])
+        read_past(s, at, k, read)
     }
 }
 
