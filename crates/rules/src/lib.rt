@@ -27,6 +27,7 @@ fn keeps_below(r: Register, bound: usize) -> bool
     let roles = roles_keep(r.enrolled, &r.domains, &r.roles);
     let capabilities = capabilities_keep(&r, bound);
     let sessions = sessions_keep(&r);
+    // `&` and not `&&`: the proof has one path, and did not close with one for each test.
     (r.count <= 256) & users & roles & capabilities & sessions
 }
 
