@@ -1,21 +1,15 @@
 -- Laws of the request words.
-use mathlib.Core.Path.{◌≡◌, refl, sym, ap, ◌∙◌}
+use mathlib.Core.Path.{◌≡◌, sym, ap, ◌∙◌}
 use mathlib.Core.Bool.{Bool, true, false}
-use mathlib.Core.List.{List, [], ◌∷◌}
+use mathlib.Core.List.{List}
 use mathlib.Core.Option.{Option}
 use Prim.Native.Nat.{ℕ}
 use lib.Dec.{eqb}
 use Rattle.std.specs.Cmp.Lexicographic.{pointwise}
-use Rattle.buffers.proofs.Comparing.{same_eq}
+use Rattle.buffers.proofs.Comparing.{same_eq, same_pointwise}
 use Rattle.masks.specs.Bytes.{same_bytes}
 use Rattle.model.specs.Calls.{Call}
 use Rattle.model.specs.Lines.{Form, by_word}
-
-same_pointwise : (xs ys : List ℕ) → pointwise eqb xs ys ≡ same_bytes xs ys
-same_pointwise [] [] = refl
-same_pointwise [] (y ∷ ys) = refl
-same_pointwise (x ∷ xs) [] = refl
-same_pointwise (x ∷ xs) (y ∷ ys) = rw (same_pointwise xs ys)
 
 -- a word that a test b finds to be q is looked up as q
 pub hit : (w q : List ℕ) (b : Bool) (args : List (List ℕ)) (fs : List Form) (o : Option Call)
