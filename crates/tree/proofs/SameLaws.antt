@@ -1,6 +1,6 @@
 -- What same's core answers is the call of the model.
-use mathlib.Core.Path.{◌≡◌, refl, ap, ap₂, ◌∙◌}
-use mathlib.Core.Bool.{Bool, true, false, cond}
+use mathlib.Core.Path.{◌≡◌, ap, ap₂, ◌∙◌}
+use mathlib.Core.Bool.{Bool, cond}
 use mathlib.Core.List.{List, ◌∷◌, zip_with}
 use Prim.Native.Nat.{ℕ, ◌%◌, ◌<◌}
 use native.Mathlib.Omega.{arith}
@@ -17,7 +17,7 @@ use Rattle.model.specs.Comparison.{domain_of, constraints, compared, alike, same
 use Rattle.model.specs.Requests.{refusal_number}
 use Rattle.model.specs.Calls.{same, ruling, settled}
 use Rattle.slots.specs.Guards.{guarded, first_number}
-use Rattle.slots.proofs.GuardLaws.{pass_clear, refuse_ruled, pass_ruled}
+use Rattle.slots.proofs.GuardLaws.{yes_number, pass_clear, refuse_ruled, pass_ruled}
 use Rattle.origins.specs.declared.authority.RoleColumns.{RoleColumns}
 use Rattle.origins.specs.Authority.{authority_in, Columns}
 use Rattle.origins.proofs.Laws.{in_range_lem, authority_read}
@@ -60,10 +60,6 @@ module _ (r : Register) (m n : ℕ) (k : Result ⊤ Refusal) (checks : guarded k
   same_passed q xs ys t v ex ey et ev =
       let g = same_clear q in
       let one : v ≡ cond (alike r m n) 1 0 =
-      ev ∙ told t
+      ev ∙ yes_number t
       ∙ ap (λ (b : Bool). cond b 1 0) (et ∙ ap₂ (λ (s l : List ℕ). each (zip_with eqb s l)) (ex ∙ ap (compared r) (in_range_lem m 256 g.0.0)) (ey ∙ ap (compared r) (in_range_lem n 256 g.0.1.0))) in
       ap (λ (x : ℕ). record { answer = value x; after = r }) one ∙ pass_ruled r r (same_guards r.count m n) (cond (alike r m n) 1 0) k tt checks q
-    where
-      told : (t : Bool) → from_bool t ≡ cond t 1 0
-      told true = refl
-      told false = refl
