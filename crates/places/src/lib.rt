@@ -2,11 +2,10 @@
 #![tactic(auto)]
 
 ghost use Rattle.std.specs.Prelude.{◌≡◌, ◌%◌, ◌<◌};
-ghost use Rattle.places.specs.Requests.{role_in, capability_in, names_of, capability_place, role_place, parent_place, changes_role, seen_slots};
+ghost use Rattle.places.specs.Requests.{role_in, capability_in, names_of, capability_place, role_place, parent_place, changes_role};
 
-use model::{Capability, LocalRequest, Named, Origin, Role, Session};
+use model::{Capability, LocalRequest, Named, Origin, Session};
 use origins::numbers::{capability_held, role_held};
-use slots::Slots;
 
 // What the places that a request leaves open are followed from: nothing, also where the role named may change; the capability's
 // origin; what the session is on; or the count, where the new capability goes.
@@ -171,29 +170,4 @@ pub fn parent_at(m: Names, c: Capability) -> usize
     ensures { (result ≡ parent_place m.follow m.parent c.origin % 256) × (result < 256) }
 {
     (parent_place(m.follow, m.parent, c.origin) % 256) as usize
-}
-
-// The elements read at these places, with the clock, the enrolled users and the count.
-pub fn seen(
-    clock: u32,
-    enrolled: u64,
-    count: u16,
-    domain: u8,
-    role: Role,
-    parent: Capability,
-    capability: Capability,
-    session: Session,
-) -> Slots
-    ensures { result ≡ seen_slots clock enrolled count domain role parent capability session }
-{
-    Slots {
-        clock,
-        enrolled,
-        count,
-        domain,
-        role,
-        parent,
-        capability,
-        session,
-    }
 }
