@@ -14,9 +14,6 @@ pub item-set : {A : Type 0} (blank : A) (read : List ℕ → A) (b : ℕ) (s : L
 item-set blank read zero s h = absurd (h refl)
 item-set blank read (suc b) s h = refl
 
-pub item_none : {A : Type 0} (blank : A) (read : List ℕ → A) (b : ℕ) (s : List ℕ) → b ≡ 0 → item_or blank read b s ≡ blank
-item_none blank read b s h = ap (λ (k : ℕ). item_or blank read k s) h
-
 -- what follows a section that begins at `at`
 pub after_section : (s : List ℕ) (w v k at m next : ℕ) → m ≡ map_at w (drop at s) → next ≡ at + (w + chosen_length v m k) → after_chosen w v k (drop at s) ≡ drop next s
 after_section s w v k at m next em en =

@@ -214,6 +214,7 @@ pub fn read_image(s: &[u8]) -> ReadImage
     r.count = count;
     let active = get_map(s, map_at, 8);
     let end = read_chosen(s, map_at + 8, active, &mut r.sessions);
+    // `&` has no branch, so that the proof has one path.
     ReadImage {
         exact: exact & sessions_exact(s, map_at + 8, active) & (end == s.len()),
         register: r,

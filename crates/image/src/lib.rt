@@ -42,7 +42,9 @@ pub fn read_checked(s: &[u8]) -> ReadImage
     ensures { (result.exact ≡ loads s.now) × (result.register ≡ decode s.now) }
 {
     let mut read = read_image(s);
-    read.exact = well_formed_read(read.register) && (s.is_empty() || read.exact);
+    let formed = well_formed_read(read.register);
+    // `&` and `|` have no branch, so that the proof has one path.
+    read.exact = formed & (s.is_empty() | read.exact);
     read
 }
 
