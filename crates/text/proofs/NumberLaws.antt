@@ -6,10 +6,10 @@ use mathlib.Core.Option.{Option, none, some}
 use Prim.Native.Nat.{ℕ, suc, ◌+◌, ◌-◌, ◌*◌, ◌≤◌, ◌<◌}
 use native.Mathlib.Numerals.{add-one}
 use native.Mathlib.Omega.{arith}
-use lib.ListN.{length, take, drop, get_or, set, drop_of_length-le}
+use lib.ListN.{length, take, drop, get_or, set}
 use lib.Seq.{drop-cons, take-suc-set, append_snoc, take_all}
 use Rattle.model.specs.Rules.{bits}
-use Rattle.model.specs.Lines.{and_then, is_digit, digits, numeral, numbers}
+use Rattle.model.specs.Lines.{and_then, is_digit, digits, numbers}
 use Rattle.text.specs.Parts.{after}
 use Rattle.text.specs.Readers.{first_number}
 use Rattle.text.proofs.PartLaws.{after_empty, after_word}
@@ -20,31 +20,19 @@ pub digits_turn : (x : ℕ) (w : List ℕ) (i : ℕ) → i < length w
     ≡ cond (is_digit (get_or w i 0) && bits 32 (x * 10 + (get_or w i 0 - 48))) (digits (x * 10 + (get_or w i 0 - 48)) (drop (i + 1) w)) none
 digits_turn x w i h = rw (add-one, drop-cons w i 0)
 
-pub digits_end : (x : ℕ) (w : List ℕ) (i : ℕ) → length w ≤ i → digits x (drop i w) ≡ some x
-digits_end x w i h = rw (drop_of_length-le w h)
-
 -- ---- exactly k numbers, those of f before byte i read
 
 abbrev pub prepend : List ℕ → Option (List ℕ) → Option (List ℕ)
 prepend got none = none
 prepend got (some rest) = some (got ++ rest)
 
-prepend_nil : (o : Option (List ℕ)) → prepend [] o ≡ o
+pub prepend_nil : (o : Option (List ℕ)) → prepend [] o ≡ o
 prepend_nil none = refl
 prepend_nil (some rest) = refl
 
-pub numbers_start : (f : List ℕ) (o : Option (List ℕ)) → prepend (take 0 f) o ≡ o
-numbers_start f o = prepend_nil o
-
 pub numbers_front : (k : ℕ) (ws : List (List ℕ)) → numbers (suc k) ws ≡ and_then (first_number ws) (λ r. and_then (numbers k r.1) (λ rest. some (r.0 ∷ rest)))
 numbers_front k [] = refl
-numbers_front k (w ∷ ws) = cases (numeral w)
-  where
-    cases : (d : Option ℕ)
-        → and_then d (λ n. and_then (numbers k ws) (λ rest. some (n ∷ rest)))
-        ≡ and_then (and_then {B = ℕ × List (List ℕ)} d (λ n. some (n, ws))) (λ r. and_then (numbers k r.1) (λ rest. some (r.0 ∷ rest)))
-    cases none = refl
-    cases (some n) = refl
+numbers_front k (w ∷ ws) = grind arith
 
 module _ (k i : ℕ) (f : List ℕ) (ws : List (List ℕ)) (h : i < k) where
   numbers-step : numbers (k - i) ws ≡ and_then (first_number ws) (λ r. and_then (numbers (k - (i + 1)) r.1) (λ rest. some (r.0 ∷ rest)))

@@ -1,6 +1,5 @@
 -- Laws of parts: `split` by the first part and what follows it, lent parts, and comparing.
 use mathlib.Core.Path.{◌≡◌, refl, sym, ap, ap₂, ◌∙◌}
-use mathlib.Core.Bool.{Bool, true, false, cond}
 use mathlib.Core.List.{List, [], ◌∷◌}
 use Prim.Native.Nat.{ℕ, suc, ◌+◌, ◌-◌, ◌≤◌, ◌<◌}
 use native.Mathlib.Nat.{suc-ne-zero}
@@ -11,49 +10,29 @@ use lib.ListN.{length, take, drop, length-drop, drop_of_length-le}
 use lib.Seq.{drop-cons, drop-drop, take_all}
 use Rattle.std.specs.List.{position_or_len}
 use Rattle.std.proofs.lemmas.List.Recursion.{is_position_or_len}
-use Rattle.masks.specs.Bytes.{onto, split}
+use Rattle.masks.specs.Bytes.{split}
 use Rattle.text.specs.Parts.{before, after}
 
 -- ---- before
 
 -- how many stand before b is where std finds it
 pub length_before-position : (b : ℕ) (s : List ℕ) → length (before b s) ≡ position_or_len (λ x. eqb x b) s
-length_before-position b s = is_position_or_len (λ l. length (before b l)) (λ x. eqb x b) refl turn s
-  where
-    turn : (x : ℕ) (xs : List ℕ) → length (before b (x ∷ xs)) ≡ cond (eqb x b) 0 (1 + length (before b xs))
-    turn x xs = cases (eqb x b)
-      where
-        cases : (t : Bool) → length (cond t [] (x ∷ before b xs)) ≡ cond t 0 (1 + length (before b xs))
-        cases true = refl
-        cases false = omega arith
+length_before-position b s = is_position_or_len (λ l. length (before b l)) (λ x. eqb x b) refl (λ x xs. grind arith) s
 
 -- a list's first bytes, as many as stand before b
 pub take-before : (b : ℕ) (s : List ℕ) → take (length (before b s)) s ≡ before b s
 take-before b [] = refl
-take-before b (x ∷ s) = cases (eqb x b) (take-before b s)
-  where
-    cases : (t : Bool) → take (length (before b s)) s ≡ before b s → take (length (cond t [] (x ∷ before b s))) (x ∷ s) ≡ cond t [] (x ∷ before b s)
-    cases true h = refl
-    cases false h = ap (λ (l : List ℕ). x ∷ l) h
+take-before b (x ∷ s) = grind (arith, take-before b s)
 
 pub length_before : (b : ℕ) (s : List ℕ) → length (before b s) ≤ length s
 length_before b [] = omega arith
-length_before b (x ∷ s) = cases (eqb x b) (length_before b s)
-  where
-    cases : (t : Bool) → length (before b s) ≤ length s → length (cond t [] (x ∷ before b s)) ≤ suc (length s)
-    cases true h = omega arith
-    cases false h = omega arith
+length_before b (x ∷ s) = grind (arith, length_before b s)
 
 -- ---- split: the first part, and the parts that follow it
 
 pub split-before : (b : ℕ) (s : List ℕ) → split b s ≡ before b s ∷ after b (drop (length (before b s)) s)
 split-before b [] = refl
-split-before b (x ∷ s) = cases (eqb x b) (split-before b s)
-  where
-    cases : (t : Bool) → split b s ≡ before b s ∷ after b (drop (length (before b s)) s)
-        → cond t ([] ∷ split b s) (onto x (split b s)) ≡ cond t [] (x ∷ before b s) ∷ after b (drop (length (cond t [] (x ∷ before b s))) (x ∷ s))
-    cases true h = refl
-    cases false h = ap (onto x) h
+split-before b (x ∷ s) = grind (arith, split-before b s)
 
 -- the same, as a slice is cut
 pub cut_split : (b : ℕ) (s : List ℕ) → split b s ≡ take (length (before b s)) s ∷ after b (drop (length (before b s)) s)

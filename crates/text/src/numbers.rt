@@ -7,7 +7,7 @@ ghost use Rattle.text.specs.Readers.{seen, number_of, first_number};
 use crate::parts::next_word;
 
 // The number that the digits of w make.
-#[tactic(auto, using(crate::proofs::NumberLaws::digits_turn, crate::proofs::NumberLaws::digits_end))]
+#[tactic(auto, using(crate::proofs::NumberLaws::digits_turn))]
 fn digits(w: &[u8]) -> Option<u32>
     ensures { seen result ≡ digitsIn 0 w.now }
 {
@@ -41,7 +41,7 @@ pub fn read_number(rest: &[u8]) -> Option<(u32, &[u8])>
 }
 
 // Exactly N numbers, the last arguments of a line.
-#[tactic(auto, using(crate::proofs::NumberLaws::numbers_start, crate::proofs::NumberLaws::numbers_stop, crate::proofs::NumberLaws::numbers_turn, crate::proofs::NumberLaws::numbers_done, crate::proofs::NumberLaws::numbers_left))]
+#[tactic(auto, using(crate::proofs::NumberLaws::prepend_nil, crate::proofs::NumberLaws::numbers_stop, crate::proofs::NumberLaws::numbers_turn, crate::proofs::NumberLaws::numbers_done, crate::proofs::NumberLaws::numbers_left))]
 pub fn read_numbers<const N: usize>(rest: &[u8]) -> Option<[u32; N]>
     ensures { seen result ≡ numbersIn N (after 32 rest.now) }
 {
