@@ -7,3 +7,4 @@ pub mod Codes
 pub mod Putting
 pub mod Reading
 pub mod ExactFields
+pub mod Window

@@ -39,6 +39,7 @@ pub fn byte_at(s: &[u8], i: usize) -> u64
 
 // The number with the bytes s, high byte first.
 #[tactic(auto, using(crate::proofs::Parts::byte_step, crate::proofs::Parts::byte_fits, crate::proofs::Parts::number_turn))]
+#[inline(always)]
 fn number_of(s: &[u8]) -> u64
     requires { length s.now ≤ 8 }
     ensures { result ≡ number_of s.now }
@@ -87,34 +88,35 @@ fn read_past<F: Fn(&[u8]) -> u64>(s: &[u8], at: usize, k: usize, read: F) -> u64
     read(&padded(s, at)[..k])
 }
 
-// The same. Of an image no bytes are past the end, so the end is asked for once.
+// The number in the k bytes from `at` on. Bytes past the end are 0; where 8 are there, they are read at once.
+#[tactic(auto, using(crate::proofs::Window::number_window))]
 #[inline(always)]
-fn read_at<F: Fn(&[u8]) -> u64>(s: &[u8], at: usize, k: usize, read: F) -> u64
-    requires here { (at < 65536) × (k ≤ 8) }
-    requires reads { (part : _) → length part.now ≤ 8 → F.pre read part }
-    ensures { FnReturnsAt F.Fn read (first_bytes k (drop at s.now)) result }
-{
-    if at + k <= s.len() {
-        read(&s[at..at + k])
-    } else {
-        read_past(s, at, k, read)
-    }
-}
-
-// The number in the k bytes from `at` on. Bytes past the end are 0.
 pub fn get_at(s: &[u8], at: usize, k: usize) -> u64
     requires { (at < 65536) × (k ≤ 8) }
     ensures { result ≡ number_of (first_bytes k (drop at s.now)) }
 {
-    read_at(s, at, k, number_of)
+    if k == 0 {
+        return 0;
+    }
+    if at + 8 <= s.len() {
+        number_of(&s[at..at + 8]) >> (64 - 8 * k)
+    } else {
+        read_past(s, at, k, number_of)
+    }
 }
 
-// The mask of the map of k bytes from `at` on. Bytes past the end are 0.
+// The mask of the map of k bytes from `at` on. Bytes past the end are 0; of an image there are none, so the end is asked for once.
+#[tactic(auto, using(crate::proofs::Parts::part_there))]
+#[inline(always)]
 pub fn get_map(s: &[u8], at: usize, k: usize) -> u64
     requires { (at < 65536) × (k ≤ 8) }
     ensures { result ≡ mask_of (first_bytes k (drop at s.now)) }
 {
-    read_at(s, at, k, mask_of)
+    if at + k <= s.len() {
+        mask_of(&s[at..at + k])
+    } else {
+        read_past(s, at, k, mask_of)
+    }
 }
 
 // The length of s, all of whose items are bytes.
