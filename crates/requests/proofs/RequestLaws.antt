@@ -1,8 +1,9 @@
 -- The arguments of create and open, by their readers.
-use mathlib.Core.Path.{◌≡◌, refl, ap}
+use mathlib.Core.Path.{◌≡◌, refl}
 use mathlib.Core.List.{List, [], ◌∷◌}
 use mathlib.Core.Option.{Option, none, some}
 use Prim.Native.Nat.{ℕ, suc}
+use native.Mathlib.Omega.{arith}
 use Rattle.model.specs.Lines.{and_then, numeral, numbers, nth, context_in, plan_in, origin_in, create_in, open_in}
 use Rattle.model.specs.Calls.{Call, create, opening}
 use Rattle.model.specs.declared.Origin.{Origin}
@@ -13,22 +14,7 @@ named_then : (k : ℕ) (kind : List ℕ) (ws : List (List ℕ)) (f g : Origin �
     → and_then (numbers (suc k) ws) (λ v. and_then (origin_in kind (nth v 0)) (λ on. some (f on v)))
     ≡ and_then (first_name (kind ∷ ws)) (λ r. and_then (numbers k r.1) (λ v. some (g r.0 v)))
 named_then k kind [] f g e = refl
-named_then k kind (w ∷ ws) f g e = first (numeral w)
-  where
-    read : (n : ℕ) (o : Option (List ℕ)) → numbers k ws ≡ o → (d : Option Origin) → origin_in kind n ≡ d
-        → and_then (and_then {B = List ℕ} o (λ rest. some (n ∷ rest))) (λ v. and_then (origin_in kind (nth v 0)) (λ on. some (f on v)))
-        ≡ and_then (and_then {B = Origin × List (List ℕ)} d (λ on. some (on, ws))) (λ r. and_then (numbers k r.1) (λ v. some (g r.0 v)))
-    read n none q none r = refl
-    read n none q (some on) r = rw q
-    read n (some v) q none r = rw r
-    read n (some v) q (some on) r = rw (r, q) (ap some (e on n v))
-
-    first : (d : Option ℕ)
-        → and_then (and_then {B = List ℕ} d (λ n. and_then (numbers k ws) (λ rest. some (n ∷ rest)))) (λ v. and_then (origin_in kind (nth v 0)) (λ on. some (f on v)))
-        ≡ and_then (and_then {B = Origin × List (List ℕ)} (and_then {B = ℕ × List (List ℕ)} d (λ n. some (n, ws))) (λ r. and_then (origin_in kind r.0) (λ o. some (o, r.1))))
-        (λ r. and_then (numbers k r.1) (λ v. some (g r.0 v)))
-    first none = refl
-    first (some n) = read n (numbers k ws) refl (origin_in kind n) refl
+named_then k kind (w ∷ ws) f g e = grind (arith, e)
 
 -- the words after a number d
 abbrev rest_of : Option ℕ → List (List ℕ) → Option (ℕ × List (List ℕ))
@@ -43,11 +29,7 @@ opened s u ws = and_then (first_name ws) (λ on. and_then (numbers 3 on.1) (λ v
 
 pub create_by : (ws : List (List ℕ)) → create_in ws ≡ and_then (first_number ws) (λ u. created u.0 u.1)
 create_by [] = refl
-create_by (user ∷ []) = cases (numeral user)
-  where
-    cases : (d : Option ℕ) → none ≡ and_then (rest_of d []) (λ u. created u.0 u.1)
-    cases none = refl
-    cases (some u) = refl
+create_by (user ∷ []) = grind arith
 create_by (user ∷ kind ∷ rest) = cases (numeral user)
   where
     cases : (d : Option ℕ)
@@ -59,20 +41,8 @@ create_by (user ∷ kind ∷ rest) = cases (numeral user)
 
 pub open_by : (ws : List (List ℕ)) → open_in ws ≡ and_then (first_number ws) (λ s. and_then (first_number s.1) (λ u. opened s.0 u.0 u.1))
 open_by [] = refl
-open_by (session ∷ []) = cases (numeral session)
-  where
-    cases : (d : Option ℕ) → none ≡ and_then (rest_of d []) (λ s. and_then (first_number s.1) (λ u. opened s.0 u.0 u.1))
-    cases none = refl
-    cases (some s) = refl
-open_by (session ∷ user ∷ []) = first (numeral session)
-  where
-    second : (s : ℕ) (e : Option ℕ) → none ≡ and_then (rest_of e []) (λ u. opened s u.0 u.1)
-    second s none = refl
-    second s (some u) = refl
-
-    first : (d : Option ℕ) → none ≡ and_then (rest_of d (user ∷ [])) (λ s. and_then (first_number s.1) (λ u. opened s.0 u.0 u.1))
-    first none = refl
-    first (some s) = second s (numeral user)
+open_by (session ∷ []) = grind arith
+open_by (session ∷ user ∷ []) = grind arith
 open_by (session ∷ user ∷ kind ∷ rest) = first (numeral session)
   where
     second : (s : ℕ) (e : Option ℕ)
