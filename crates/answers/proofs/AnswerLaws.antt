@@ -1,12 +1,10 @@
 -- Laws of answers as lines.
 use mathlib.Core.Path.{◌≡◌, refl, sym, ap, ◌∙◌}
-use mathlib.Core.Bool.{Bool, true, false, cond}
 use mathlib.Core.List.{List, [], ◌∷◌, ◌++◌, append-nil, append_assoc}
 use Prim.Native.Nat.{ℕ, zero, suc, ◌+◌, ◌-◌, ◌*◌, ◌/◌, ◌%◌, ◌^◌, ◌≤◌, ◌<◌}
 use native.Mathlib.Nat.{pow-suc, le_refl}
 use native.Mathlib.Omega.{arith}
 use borrow.Author.Tests.{lt-ltb, le-ltb}
-use lib.Dec.{ltb}
 use lib.ListN.{length, take, drop, set, length-append, length-drop, drop_of_length-le}
 use lib.Seq.{length-take-le}
 use borrow.Rule.Slice.PartMut.{put_mid}
@@ -22,19 +20,11 @@ use Rattle.answers.proofs.WriteLaws.{into_room, filled_room, into_short, filled_
 
 pub count_low : (f n : ℕ) → 1 ≤ digit_count f n
 count_low zero n = omega arith
-count_low (suc f) n = cases (ltb n 10)
-  where
-    cases : (t : Bool) → 1 ≤ cond t 1 (suc (digit_count f (n / 10)))
-    cases true = omega arith
-    cases false = omega arith
+count_low (suc f) n = grind arith
 
 pub count_high : (f n : ℕ) → digit_count f n ≤ suc f
 count_high zero n = omega arith
-count_high (suc f) n = cases (ltb n 10) (count_high f (n / 10))
-  where
-    cases : (t : Bool) → digit_count f (n / 10) ≤ suc f → cond t 1 (suc (digit_count f (n / 10))) ≤ suc (suc f)
-    cases true h = omega arith
-    cases false h = omega arith
+count_high (suc f) n = grind (arith, count_high f (n / 10))
 
 pub count_done : (f x : ℕ) → x < 10 → digit_count f x ≡ 1
 count_done zero x h = refl
