@@ -1,12 +1,12 @@
 // Any request on a register, by value: the register is tested for the rules once, then the call.
 #![tactic(auto)]
 
-ghost use Rattle.std.specs.Prelude.{◌≡◌, T};
-ghost use Rattle.model.specs.Rules.{well_formed};
+ghost use Rattle.std.specs.Prelude.{◌≡◌};
 ghost use Rattle.model.specs.Calls.{settled, step};
 ghost use Rattle.model.specs.Requests.{effect_of, call_of, local_call, tree_call};
 
 use dispatch::{order_of, perform};
+use model::formed::WellFormed;
 use model::{LocalRequest, Refusal, Register, Reply, Request, TreeRequest};
 use origins::authority::columns_of;
 use rules::well_formed;
@@ -14,10 +14,10 @@ use sweeps::sweep_all;
 use tree::orders::Order;
 
 // A call that changes only elements that it names.
-fn apply_local(mut r: Register, q: LocalRequest) -> Reply
-    requires { T (well_formed r) }
-    ensures { effect_of result ≡ settled r (local_call q) }
+fn apply_local(formed: WellFormed, q: LocalRequest) -> Reply
+    ensures { effect_of result ≡ settled formed.register (local_call q) }
 {
+    let mut r = formed.register;
     let columns = columns_of(&r.roles);
     let answer = perform(&mut r, &columns, q);
     Reply {
@@ -27,11 +27,11 @@ fn apply_local(mut r: Register, q: LocalRequest) -> Reply
 }
 
 // A call over the whole tree.
-fn apply_tree(r: Register, t: TreeRequest) -> Reply
-    requires { T (well_formed r) }
-    ensures { effect_of result ≡ settled r (tree_call t) }
+fn apply_tree(formed: WellFormed, t: TreeRequest) -> Reply
+    ensures { effect_of result ≡ settled formed.register (tree_call t) }
 {
-    match order_of(r, t) {
+    let r = formed.register;
+    match order_of(formed, t) {
         Ok(Order::Sweep(s)) => sweep_all(r, s),
         Ok(Order::Value(value)) => Reply {
             answer: Ok(value),
@@ -44,14 +44,13 @@ fn apply_tree(r: Register, t: TreeRequest) -> Reply
     }
 }
 
-// The call on a register that is known to be well-formed.
-pub fn apply_trusted(r: Register, q: Request) -> Reply
-    requires { T (well_formed r) }
-    ensures { effect_of result ≡ settled r (call_of q) }
+// The call on a register that keeps the rules.
+pub fn apply_trusted(formed: WellFormed, q: Request) -> Reply
+    ensures { effect_of result ≡ settled formed.register (call_of q) }
 {
     match q {
-        Request::Local(one) => apply_local(r, one),
-        Request::Tree(t) => apply_tree(r, t),
+        Request::Local(one) => apply_local(formed, one),
+        Request::Tree(t) => apply_tree(formed, t),
     }
 }
 
@@ -61,7 +60,7 @@ pub fn apply(r: Register, q: Request) -> Reply
     ensures { effect_of result ≡ step r (call_of q) }
 {
     if well_formed(r) {
-        apply_trusted(r, q)
+        apply_trusted(WellFormed { register: r }, q)
     } else {
         Reply {
             answer: Err(Refusal::Broken),

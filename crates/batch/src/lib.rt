@@ -9,6 +9,7 @@ ghost use Rattle.model.specs.Lists.{run};
 ghost use Rattle.batch.specs.Batch.{calls_of, outcomes_of, padded_answers};
 
 use apply::apply_trusted;
+use model::formed::WellFormed;
 use model::{Answer, Refusal, Register, Request};
 use rules::well_formed;
 
@@ -33,15 +34,14 @@ fn refusals(n: usize) -> [Answer; 64]
 }
 
 // At most 64 requests, on a register that is known to be well-formed; each call goes by value.
-fn apply_formed(start: Register, requests: &[Request]) -> Played
-    requires formed { T (well_formed start) }
-    requires few { length requests.now ≤ 64 }
-    ensures { (result.register ≡ run start (calls_of requests.now)) × (outcomes_of result.answers ≡ padded_answers start requests.now) }
+fn apply_formed(start: WellFormed, requests: &[Request]) -> Played
+    requires { length requests.now ≤ 64 }
+    ensures { (result.register ≡ run start.register (calls_of requests.now)) × (outcomes_of result.answers ≡ padded_answers start.register requests.now) }
 {
-    let mut register = start;
+    let mut register = start.register;
     let mut answers = [Ok(0); 64];
     for (i, request) in requests.iter().enumerate() {
-        let reply = apply_trusted(register, *request);
+        let reply = apply_trusted(WellFormed { register }, *request);
         answers[i] = reply.answer;
         register = reply.register;
     }
@@ -55,7 +55,7 @@ pub fn apply_all(start: Register, requests: &[Request]) -> Played
 {
     let n = requests.len().min(64);
     if well_formed(start) {
-        apply_formed(start, &requests[..n])
+        apply_formed(WellFormed { register: start }, &requests[..n])
     } else {
         Played {
             register: start,

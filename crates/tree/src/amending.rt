@@ -1,6 +1,5 @@
 // amend, on a register that is known to be well-formed.
-ghost use Rattle.std.specs.Prelude.{◌≡◌, T};
-ghost use Rattle.model.specs.Rules.{well_formed};
+ghost use Rattle.std.specs.Prelude.{◌≡◌};
 ghost use Rattle.model.specs.Calls.{settled, amend};
 ghost use Rattle.model.specs.Requests.{change_of};
 ghost use Rattle.slots.specs.Guards.{guarded, first_number};
@@ -9,7 +8,8 @@ ghost use Rattle.tree.specs.Orders.{amendment_of, order_effect};
 
 use crate::orders::Order;
 use masks::member;
-use model::{Capability, Change, Refusal, Register};
+use model::formed::WellFormed;
+use model::{Capability, Change, Refusal};
 use origins::numbers::capability_held;
 use origins::terms::bare_allowance;
 use slots::guards::ensure;
@@ -69,10 +69,10 @@ fn amend_guards(
 }
 
 #[tactic(auto, using(crate::proofs::AmendLaws::amend_refused, crate::proofs::AmendLaws::amend_passed))]
-pub fn amend_order(r: Register, user: u32, n: u32, change: Change) -> Result<Order, Refusal>
-    requires { T (well_formed r) }
-    ensures { order_effect r result ≡ settled r (amend user n (change_of change)) }
+pub fn amend_order(formed: WellFormed, user: u32, n: u32, change: Change) -> Result<Order, Refusal>
+    ensures { order_effect formed.register result ≡ settled formed.register (amend user n (change_of change)) }
 {
+    let r = &formed.register;
     let at = (n % 256) as u8;
     let c = r.capabilities[usize::from(at)];
     let parent = r.capabilities[usize::from(capability_held(c.origin))];
