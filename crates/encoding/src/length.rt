@@ -1,11 +1,10 @@
 // The length of an image, of which nothing is written.
-ghost use Rattle.std.specs.Prelude.{◌≡◌, ◌≤◌, T, length};
+ghost use Rattle.std.specs.Prelude.{◌≡◌, ◌≤◌, length};
 ghost use Rattle.std.specs.Int.Count.{ones};
-ghost use Rattle.model.specs.Rules.{well_formed};
 ghost use Rattle.model.specs.Image.{encode};
 
 use crate::section::mask_of;
-use model::Register;
+use model::formed::WellFormed;
 use records::record::capability_length;
 
 // How many items a mask has.
@@ -16,10 +15,10 @@ fn items(mask: u64) -> usize
 }
 
 // The bytes of the image of a register that keeps the rules: 26, one for each user, and those of its records.
-pub fn image_length(r: Register) -> usize
-    requires { T (well_formed r) }
-    ensures { result ≡ length (encode r) }
+pub fn image_length(formed: WellFormed) -> usize
+    ensures { result ≡ length (encode formed.register) }
 {
+    let r = &formed.register;
     let founded = items(mask_of(&r.roles));
     let active = items(mask_of(&r.sessions));
     let mut n = 26 + items(r.enrolled) + founded * 20 + active * 6;

@@ -1,26 +1,26 @@
 // The image of the register, and the calls save and load.
 #![tactic(auto)]
 
-ghost use Rattle.std.specs.Prelude.{◌≡◌, T, length};
-ghost use Rattle.model.specs.Rules.{well_formed};
+ghost use Rattle.std.specs.Prelude.{◌≡◌, length};
 ghost use Rattle.model.specs.Requests.{outcome_of, effect_of};
 ghost use Rattle.model.specs.Image.{decode, loads, save_effect, saved_buffer, load_effect};
 
 use decoding::{ReadImage, read_image};
 use encoding::length::image_length;
 use encoding::put_image;
+use model::formed::WellFormed;
 use model::{Answer, Refusal, Register, Reply};
 use rules::{well_formed, well_formed_read};
 
 // Saves a register that keeps the rules, without testing them. Whether there is room is decided before anything is written, by the
 // most that the image can have or else by its length.
-pub fn save_trusted(r: Register, buffer: &mut [u8]) -> Answer
-    requires { T (well_formed r) }
-    ensures { (outcome_of result ≡ (save_effect r (length buffer.old)).answer) × (buffer.new ≡ saved_buffer r buffer.old (save_effect r (length buffer.old)).answer) }
+pub fn save_trusted(formed: WellFormed, buffer: &mut [u8]) -> Answer
+    ensures { (outcome_of result ≡ (save_effect formed.register (length buffer.old)).answer) × (buffer.new ≡ saved_buffer formed.register buffer.old (save_effect formed.register (length buffer.old)).answer) }
 {
+    let r = formed.register;
     let room = buffer.len();
     let most = 1114 + 48 * usize::from(r.count);
-    if room < most && room < image_length(r) {
+    if room < most && room < image_length(formed) {
         return Err(Refusal::Room);
     }
     Ok(put_image(buffer, r) as u32)
@@ -33,7 +33,7 @@ pub fn save(r: Register, buffer: &mut [u8]) -> Answer
     if !well_formed(r) {
         return Err(Refusal::Broken);
     }
-    save_trusted(r, buffer)
+    save_trusted(WellFormed { register: r }, buffer)
 }
 
 // The register in an image, and whether load accepts the bytes: `exact` is its whole test here. No bytes are read as zero bytes, so

@@ -6,11 +6,11 @@ use Rattle.encoding.proofs.Lengths.{length_start, length-step, length_fits, leng
 use Rattle.encoding.proofs.length.image_length.Goals as goal
 
 pub shared_ref_as_front-c-items : goal.shared_ref_as_front-c-items
-shared_ref_as_front-c-items c = rw c.from.ensures (formed→ c.args.r c.requires).count
+shared_ref_as_front-c-items c = rw c.from.ensures (formed→ c.args.formed.register c.args.formed.kept).count
 
 pub loop-c-init : goal.loop-c-init
 loop-c-init c =
-    length_start (formed→ c.args.r c.requires) c.items.ensures.0
+    length_start (formed→ c.args.formed.register c.args.formed.kept) c.items.ensures.0
     (c.items-founded.ensures.0 ∙ ap ones c.mask_of.ensures.0) (c.items-active.ensures.0 ∙ ap ones c.mask_of-2.ensures.0) c.from.ensures
 
 pub overflow_add-n-in-loop-c : goal.overflow_add-n-in-loop-c
