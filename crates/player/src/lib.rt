@@ -14,6 +14,7 @@ ghost use Rattle.player.specs.Play.{journal_length, journal_buffer};
 use crate::step::{Step, step_of};
 use answers::print;
 use dispatch::{order_of, perform};
+use model::formed::WellFormed;
 use model::{Answer, Context, LocalRequest, Refusal, Register, TreeRequest};
 use origins::authority::{RoleColumns, columns_of};
 use origins::numbers::{capability_held, role_held};
@@ -61,7 +62,7 @@ fn perform_tree(r: &mut Register, columns: &mut RoleColumns, t: TreeRequest) -> 
     ensures effect { performed result r.new ≡ settled r.old (tree_call t) }
     ensures columns { Columns columns.new r.new.roles }
 {
-    match order_of(*r, t)? {
+    match order_of(WellFormed { register: *r }, t)? {
         Order::Value(n) => Ok(n),
         Order::Sweep(s) => {
             let reply = sweep_all(*r, s);
