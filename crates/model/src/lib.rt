@@ -1,4 +1,4 @@
-// The register by value and all that it holds, requests and answers. A capability is document 01's pass.
+// The register by value and all that it holds, requests and answers. Journals call a capability a pass.
 #![tactic(auto)]
 
 ghost use Rattle.std.specs.Prelude.{◌≡◌};
@@ -97,7 +97,8 @@ pub struct Reply {
     pub register: Register,
 }
 
-// A role or a capability as a request names it: any number that a line can hold.
+// A role or a capability as a request names it: any number that a line can hold. This is no instance of one type with `Origin`, which
+// holds numbers in range: definitions see both numbers as natural ones, and one type would let either stand for the other.
 #[derive(Clone, Copy)]
 pub enum Named {
     Role(u32),
@@ -130,7 +131,7 @@ pub struct Plan {
     pub devices: u32,
 }
 
-// A request that changes only elements that it names: journal words with their arguments, in the document's order.
+// A request that changes only elements that it names: journal words with their arguments, in the specification's order.
 #[derive(Clone, Copy)]
 pub enum LocalRequest {
     Enrol(u32, u32),
