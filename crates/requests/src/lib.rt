@@ -78,6 +78,7 @@ fn amend_request(rest: &[u8]) -> Option<Request>
     Some(Request::Tree(TreeRequest::Amend(user, capability, change)))
 }
 
+// Words are tried one after another: with a `match` on byte strings the proof of the last arm, that no word fits, did not close.
 // The request of the words from open to same.
 #[tactic(auto, using(crate::proofs::WordLaws::hit), unfolding(model::specs::Lines::forms))]
 fn session_request(word: &[u8], rest: &[u8]) -> Option<Request>
