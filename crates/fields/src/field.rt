@@ -2,7 +2,7 @@
 ghost use Rattle.std.specs.Prelude.{◌≡◌, ◌*◌, ◌<◌, ◌≤◌, length};
 ghost use Rattle.model.specs.Fields.{field_map};
 
-// w where the bit is set, else 0.
+// w where the bit is set, else 0. No plainer as a product, which would have to be shown to fit.
 pub fn if_set(bit: u64, w: usize) -> usize
     requires { bit < 2 }
     ensures { (result ≡ bit * w) × (result ≤ w) }

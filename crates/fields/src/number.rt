@@ -18,6 +18,7 @@ pub fn put(s: &mut [u8], k: usize, n: u64)
 }
 
 // Writes a mask as a map of k bytes at the front of s.
+// No plainer as one function with `put`: it would be told the order of the bytes, for a loop of two lines.
 #[tactic(auto, using(buffers::proofs::Parts::placed, buffers::proofs::Parts::placed_nil, crate::proofs::Parts::map_turn))]
 pub fn put_map(s: &mut [u8], k: usize, n: u64)
     requires { k ≤ length s.old }
