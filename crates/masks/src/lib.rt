@@ -42,6 +42,7 @@ pub trait Mask: BitOr<Output = Self> + BitXor<Output = Self> {
     ghost xor_law: { (a b r : Self) → Self.BitXor.bitxor_gives a b r → number r ≡ bit_xor (number a) (number b) };
 }
 
+// Two impls that differ in the type: no macro writes impls here, and `1 << k` needs a type.
 impl Mask for u32 {
     ghost width = { 32 };
 
