@@ -130,7 +130,7 @@ fn session_exact_if(s: &[u8], at: usize, bit: u64) -> bool
     bit == 0 || byte_at(s, at + 1) < 2
 }
 
-// Whether the sessions of a mask are written exactly so.
+// Whether the sessions of a mask are written exactly so. The counter has a name only for the loop's invariant.
 #[tactic(auto, using(crate::proofs::Reading::sessions_turn))]
 fn sessions_exact(s: &[u8], from: usize, mask: u64) -> bool
     requires { from < 50000 }
@@ -167,7 +167,7 @@ fn read_capabilities(s: &[u8], from: usize, rows: &mut [Capability]) -> (bool, u
     (exact, at)
 }
 
-// A count, whether its capabilities are each written exactly so, and where they end.
+// A count, whether its capabilities are each written exactly so, and where they end. A flag and no Option, as in `ReadImage` below.
 struct Counted {
     count: u16,
     exact: bool,
