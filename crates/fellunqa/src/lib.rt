@@ -1,9 +1,8 @@
 // The C entry point, which document 01 calls the door: one image, one line, and the buffer for the new image.
 #![tactic(auto)]
 
-ghost use Rattle.std.specs.Prelude.{◌≡◌, T, length};
+ghost use Rattle.std.specs.Prelude.{◌≡◌, length};
 ghost use Rattle.masks.specs.Bytes.{split};
-ghost use Rattle.model.specs.Rules.{well_formed};
 ghost use Rattle.model.specs.Image.{encode};
 ghost use Rattle.model.specs.Requests.{outcome_of, call_of, parsed_call};
 ghost use Rattle.model.specs.Entry.{fitted, sole_line, entry, returned, buffer_after};
@@ -13,7 +12,8 @@ ghost use Rattle.fellunqa.specs.Perform.{performed, to_c};
 use apply::apply_trusted;
 use fields::number::put;
 use image::{read_checked, save_trusted};
-use model::{Answer, Refusal, Register, Request};
+use model::formed::WellFormed;
+use model::{Answer, Refusal, Request};
 use requests::parse;
 use text::parts::count_before;
 
@@ -32,27 +32,28 @@ fn sole_line(line: &[u8]) -> Option<Request>
 
 // The value v with the image of r, its length in two bytes before it; 16 where the area has no room, and then nothing is written.
 #[tactic(auto, using(buffers::proofs::Parts::length_tail, buffers::proofs::Parts::tail_back, crate::proofs::Laws::head_last, crate::proofs::Laws::save_said, crate::proofs::Laws::save_unsaid, crate::proofs::Laws::fitted_room, crate::proofs::Laws::fitted_none, crate::proofs::Laws::leaves_by))]
-fn deliver(area: &mut [u8], r: Register, v: u32) -> Answer
-    requires { T (well_formed r) }
-    ensures { (outcome_of result ≡ answer_returned (fitted (length area.old) v (encode r))) × (area.new ≡ buffer_after (fitted (length area.old) v (encode r)) area.old) }
+fn deliver(area: &mut [u8], formed: WellFormed, v: u32) -> Answer
+    ensures { (outcome_of result ≡ answer_returned (fitted (length area.old) v (encode formed.register))) × (area.new ≡ buffer_after (fitted (length area.old) v (encode formed.register)) area.old) }
 {
     if area.len() < 2 {
         return Err(Refusal::Room);
     }
-    let n = save_trusted(r, &mut area[2..])?;
+    let n = save_trusted(formed, &mut area[2..])?;
     put(area, 2, u64::from(n));
     Ok(v)
 }
 
 // The call of a request, by value.
 #[tactic(auto, using(crate::proofs::Laws::leaves_by, crate::proofs::Laws::after_formed, crate::proofs::Laws::by_value, crate::proofs::Laws::by_refusal))]
-fn perform(area: &mut [u8], r: Register, q: Request) -> Answer
-    requires { T (well_formed r) }
-    ensures { (outcome_of result ≡ answer_returned (performed (length area.old) r (call_of q))) × (area.new ≡ buffer_after (performed (length area.old) r (call_of q)) area.old) }
+fn perform(area: &mut [u8], formed: WellFormed, q: Request) -> Answer
+    ensures { (outcome_of result ≡ answer_returned (performed (length area.old) formed.register (call_of q))) × (area.new ≡ buffer_after (performed (length area.old) formed.register (call_of q)) area.old) }
 {
-    let reply = apply_trusted(r, q);
+    let reply = apply_trusted(formed, q);
     let v = reply.answer?;
-    deliver(area, reply.register, v)
+    let after = WellFormed {
+        register: reply.register,
+    };
+    deliver(area, after, v)
 }
 
 // One call on the register whose image is given.
@@ -68,7 +69,10 @@ fn enter(image: &[u8], line: &[u8], area: &mut [u8]) -> Answer
     let Some(request) = sole_line(line) else {
         return Err(Refusal::Malformed);
     };
-    perform(area, read.register, request)
+    let formed = WellFormed {
+        register: read.register,
+    };
+    perform(area, formed, request)
 }
 
 // "It returns the value, or the refusal as a negative number"
