@@ -7,7 +7,7 @@ ghost use Rattle.entries.specs.Limits.{capability_with, place_with};
 
 use crate::limits::{is_earlier, is_origin};
 use masks::member;
-use model::{Capability, Origin};
+use model::{Capability, blank_capability};
 use origins::terms::{Allowance, is_below};
 
 // What the rules of every capability go by: the users enrolled, the roles founded, and how many capabilities there are.
@@ -23,24 +23,7 @@ pub struct Known {
 fn is_blank(c: Capability) -> bool
     ensures { result ≡ capability_blank c }
 {
-    // `&` and not `&&`: the proof has one path, where one for each of 17 tests did not close.
-    (c.origin == Origin::Role(0))
-        & (c.creator == 0)
-        & (c.permissions == 0)
-        & (c.lent == 0)
-        & (c.holders == 0)
-        & (c.first == 0)
-        & (c.last == 0)
-        & (c.use_limit == 0)
-        & (c.uses == 0)
-        & (c.creation_limit == 0)
-        & (c.creations == 0)
-        & (c.hop_limit == 0)
-        & (c.hops == 0)
-        & (c.hours == 0)
-        & (c.places == 0)
-        & (c.devices == 0)
-        & !c.revoked
+    c == blank_capability()
 }
 
 // Every number is in its range; the types see to those that are not tested.

@@ -5,7 +5,7 @@ ghost use Rattle.model.specs.Rules.{user_keeps, role_blank};
 ghost use Rattle.entries.specs.Limits.{role_with, role_keeps_with};
 
 use masks::member;
-use model::Role;
+use model::{Role, blank_role};
 
 // A user is of a domain once enrolled, and of domain 0 before.
 #[tactic(auto, using(masks::proofs::Truth::cond_true, masks::proofs::Truth::cond_false), unfolding(model::specs::Rules::user_keeps, masks::specs::Masks::has))]
@@ -25,12 +25,10 @@ pub fn user_keeps(enrolled: u64, u: usize, domain: u8) -> bool
 fn is_blank(x: Role) -> bool
     ensures { result ≡ role_blank x }
 {
-    x.domain == 0
-        && x.permissions == 0
-        && x.hours == 0
-        && x.places == 0
-        && x.devices == 0
-        && x.appointed == 0
+    x == Role {
+        founded: x.founded,
+        ..blank_role()
+    }
 }
 
 // The rules of a founded role; peers are the users of its domain.

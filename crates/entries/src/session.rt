@@ -7,7 +7,7 @@ ghost use Rattle.entries.specs.Limits.{session_with, session_keeps_with};
 
 use crate::limits::is_origin;
 use masks::member;
-use model::{Context, Origin, Session};
+use model::{Context, Session, blank_session};
 use origins::terms::{Allowance, admits, in_context};
 
 // What is kept for a session not open is 0.
@@ -15,7 +15,10 @@ use origins::terms::{Allowance, admits, in_context};
 fn is_blank(s: Session) -> bool
     ensures { result ≡ session_blank s }
 {
-    s.user == 0 && s.on == Origin::Role(0) && s.hour == 0 && s.place == 0 && s.device == 0
+    s == Session {
+        active: s.active,
+        ..blank_session()
+    }
 }
 
 // A session's context has its ranges and is admitted by its role or capability, which allows u.

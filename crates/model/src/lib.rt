@@ -14,7 +14,7 @@ pub enum Origin {
     Capability(u8),
 }
 
-#[derive(Clone, Copy)]
+#[derive(Clone, Copy, PartialEq, Eq)]
 pub struct Role {
     pub founded: bool,
     pub domain: u8,
@@ -25,7 +25,7 @@ pub struct Role {
     pub appointed: u64,
 }
 
-#[derive(Clone, Copy)]
+#[derive(Clone, Copy, PartialEq, Eq)]
 pub struct Capability {
     pub origin: Origin,
     pub creator: u8,
@@ -46,7 +46,7 @@ pub struct Capability {
     pub revoked: bool,
 }
 
-#[derive(Clone, Copy)]
+#[derive(Clone, Copy, PartialEq, Eq)]
 pub struct Session {
     pub active: bool,
     pub user: u8,
