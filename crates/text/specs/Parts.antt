@@ -1,6 +1,6 @@
 -- Intermediate: the code's own terms, proved to come to the definitions of `model`.
 -- A list of bytes by the part before its first separator and what follows that part.
-use Rattle.std.specs.Prelude.{Bool, true, cond, List, [], ◌∷◌, ℕ, eqb}
+use Rattle.std.specs.Prelude.{Bool, true, cond, List, [], ◌∷◌, ℕ, eqb, length, drop}
 use Rattle.masks.specs.Bytes.{split}
 
 -- the bytes before the first that equals b, or all of them
@@ -17,3 +17,8 @@ ends_word (x ∷ s) = eqb x 32
 abbrev pub after : ℕ → List ℕ → List (List ℕ)
 after b [] = []
 after b (x ∷ s) = split b s
+
+-- the bytes that follow a word, where s begins with the separator before it or is empty
+abbrev pub past_word : List ℕ → List ℕ
+past_word [] = []
+past_word (x ∷ s) = drop (length (before 32 s)) s

@@ -9,7 +9,7 @@ use Rattle.model.specs.Revocation.{Change}
 use Rattle.model.specs.declared.Change.{Change as ChangeBy}
 use Rattle.model.specs.declared.Named.{Named}
 use Rattle.model.specs.declared.Origin.{Origin}
-use Rattle.text.specs.Parts.{after}
+use Rattle.text.specs.Parts.{after, past_word}
 
 -- ---- what was read, as the definitions of lines say it
 
@@ -56,7 +56,12 @@ last_change [] = none
 last_change (w ∷ []) = change_in w
 last_change (w ∷ more ∷ ws) = none
 
+-- what a reader leaves is what follows the word that it read
+abbrev pub Leaves : {A : Type 0} → List ℕ → Maybe (A × Bor (List ℕ)) → Type 0
+Leaves s (Some read) = read.1.now ≡ past_word s
+Leaves s None = Unit {0}
+
 -- a reader that reads only some numbers: what it reads is right
 abbrev pub Short : List ℕ → Maybe (ℕ × Bor (List ℕ)) → Type 0
-Short s (Some read) = number_of (Some read) ≡ first_number (after 32 s)
+Short s (Some read) = (number_of (Some read) ≡ first_number (after 32 s)) × (read.1.now ≡ past_word s)
 Short s None = Unit {0}

@@ -2,7 +2,7 @@
 ghost use Rattle.std.specs.Prelude.{◌≡◌};
 ghost use Rattle.model.specs.Lines.{digits as digitsIn, numeral, numbers as numbersIn};
 ghost use Rattle.text.specs.Parts.{after};
-ghost use Rattle.text.specs.Readers.{seen, number_of, first_number};
+ghost use Rattle.text.specs.Readers.{seen, number_of, first_number, Leaves};
 
 use crate::parts::next_word;
 
@@ -34,7 +34,7 @@ pub fn read_decimal(w: &[u8]) -> Option<u32>
 
 // The number that a rest begins with, and the rest after it.
 pub fn read_number(rest: &[u8]) -> Option<(u32, &[u8])>
-    ensures { number_of result ≡ first_number (after 32 rest.now) }
+    ensures { (number_of result ≡ first_number (after 32 rest.now)) × Leaves rest.now result }
 {
     let (word, rest) = next_word(rest)?;
     Some((read_decimal(word)?, rest))
