@@ -21,7 +21,8 @@ use slots::guards::{ensure, raised};
 use slots::terms::origin_allows;
 use slots::{Decision, Slots, settle};
 
-// The numbers of a request are in their ranges; the first tick is at most the last.
+// The numbers of a request are in their ranges; the first tick is at most the last. Here and in the other families a request's arguments
+// stand apart, as its line and its call have them: a struct of them would be made once and taken apart once.
 fn in_ranges(user: u32, origin: Named, at: Context, plan: Plan) -> bool
     ensures { result ≡ each (create_ranges user (named_origin origin) at plan) }
 {

@@ -98,7 +98,7 @@ impl Decode for Session {
     }
 }
 
-// The item at `at` where the bit is set, else the blank one.
+// The item at `at` where the bit is set, else the blank one. The bound on `at` is a clause, as where numbers are read.
 fn read_if<T: Decode>(s: &[u8], at: usize, bit: u64) -> T
     requires { at < 60000 }
     ensures { result ≡ item_or T.blank T.meaning bit (drop at s.now) }

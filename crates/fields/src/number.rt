@@ -2,7 +2,6 @@
 ghost use Rattle.std.specs.Prelude.{◌≡◌, ◌+◌, ◌<◌, ◌≤◌, length, take, drop, get_or};
 ghost use Rattle.masks.specs.Bytes.{bytes_of, number_of, map_bytes, mask_of, first_bytes, front};
 ghost use Rattle.std.specs.Fn.{FnReturnsAt};
-ghost use Rattle.fields.specs.Codes.{Bytes};
 
 // Writes n as k bytes, high byte first, at the front of s.
 #[tactic(auto, using(buffers::proofs::Digits::DigitsFrom, buffers::proofs::Digits::digits_start, buffers::proofs::Digits::digits_step, buffers::proofs::Digits::digits_done, crate::proofs::Parts::byte_digits))]
@@ -78,7 +77,8 @@ fn padded(s: &[u8], at: usize) -> [u8; 8]
     bytes
 }
 
-// What `read` makes of the k bytes from `at` on, 0 for each past the end.
+// What `read` makes of the k bytes from `at` on, 0 for each past the end. The bounds on `at` and k stand as clauses here and where they
+// are asked for: a cursor that kept them would be made anew for each field.
 #[cold]
 #[inline(never)]
 fn read_past<F: Fn(&[u8]) -> u64>(s: &[u8], at: usize, k: usize, read: F) -> u64
@@ -118,16 +118,4 @@ pub fn get_map(s: &[u8], at: usize, k: usize) -> u64
     } else {
         read_past(s, at, k, mask_of)
     }
-}
-
-// The length of s, all of whose items are bytes.
-pub fn byte_count(s: &[u8]) -> usize
-    ensures { (result ≡ length s.now) × Bytes s.now }
-{
-    let n = s.len();
-    if n == 0 {
-        return 0;
-    }
-    let _first = s[0];
-    n
 }

@@ -97,7 +97,8 @@ pub fn decide_hand(v: Slots, user: u32, receiver: u32, number: u32) -> Decision
     settle(v, guards, hops as u32, after)
 }
 
-// The slot `capability` is the capability named; the slot `role` or `parent` is its origin.
+// The slot `capability` is the capability named; the slot `role` or `parent` is its origin. allow and lend have `give` in common; what is
+// left to each is which mask is given, and which field holds it.
 #[tactic(auto, using(crate::proofs::Laws::give_agrees), unfolding(crate::specs::Giving::allow_decision))]
 pub fn decide_allow(v: Slots, columns: &RoleColumns, user: u32, number: u32, mask: u32) -> Decision
     ensures { ruled_of result ≡ allow_decision v columns.now user number mask }

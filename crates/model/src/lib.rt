@@ -131,7 +131,8 @@ pub struct Plan {
     pub devices: u32,
 }
 
-// A request that changes only elements that it names: journal words with their arguments, in the specification's order.
+// A request that changes only elements that it names: journal words with their arguments, in the specification's order. The arguments
+// stand apart, since a struct for each word would be made once and taken apart once.
 #[derive(Clone, Copy)]
 pub enum LocalRequest {
     Enrol(u32, u32),

@@ -46,7 +46,7 @@ impl<'a> Party<'a> {
         }
     }
 
-    // Uses are below their limit; a role counts none.
+    // Uses are below their limit; a role counts none. Two methods, here and below: one would be told which two fields to compare.
     pub fn may_use(&self) -> bool
         ensures { result ≡ may_use (standing self.now) }
     {

@@ -40,7 +40,8 @@ fn checked(r: &Register, columns: &RoleColumns, number: u32, permission: u32, at
     answer_check(r.clock, s, x, c, columns, number, permission, at)
 }
 
-// A call that changes only elements that it names. The columns stay where it changes no role.
+// A call that changes only elements that it names. The columns stay where it changes no role. That the register keeps the rules is a
+// clause and no type: a journal may begin with one that breaks them, and to wrap it for each line would copy it.
 #[tactic(auto, using(dispatch::proofs::Columns::columns_stay))]
 fn perform_local(r: &mut Register, columns: &mut RoleColumns, q: LocalRequest) -> Answer
     requires formed { T (well_formed r.old) }
@@ -89,7 +90,8 @@ fn play_line(r: &mut Register, columns: &mut RoleColumns, formed: bool, line: &[
     }
 }
 
-// The lines of an input, from any register; the output has room for five bytes a byte.
+// The lines of an input, from any register; the output has room for five bytes a byte. No `for` over the parts between line feeds: the
+// last part is answered otherwise, whatever it holds.
 #[tactic(auto, using(buffers::proofs::Parts::tail, buffers::proofs::Parts::length_tail, buffers::proofs::Parts::placed_nil, crate::proofs::Transcripts::transcript_done, crate::proofs::Laws::Playing, crate::proofs::Laws::left_fits, crate::proofs::Laws::to_within, crate::proofs::Room::transcript_most))]
 fn play(start: Register, input: &[u8], out: &mut [u8]) -> usize
     requires { 5 * length input.now ≤ length out.old }

@@ -9,7 +9,7 @@ use fields::field::field_map;
 use fields::layout::ALL;
 use model::{Capability, Origin, Role, Session};
 
-// A role of its fields.
+// A role of its fields, numbered as in its layout and in the definitions, which keep fields and codings as two lists.
 #[tactic(auto, unfolding(model::specs::Fields::role_codings, model::specs::Fields::role_of))]
 fn role_of(f: [u64; 6]) -> Role
     requires { Fitted role_codings f }
@@ -26,6 +26,7 @@ fn role_of(f: [u64; 6]) -> Role
     }
 }
 
+// Roles and sessions are each read by their own layout into their own type; a trait for the two would say no less than these lines.
 #[tactic(auto, using(crate::proofs::Layouts::role_fitted, crate::proofs::Layouts::role_reads))]
 pub fn read_role(s: &[u8], at: usize) -> Role
     requires { (at < 60000) × Bytes s.now }
@@ -99,6 +100,7 @@ fn capability_of(h: [u64; 4], f: [u64; 15]) -> Capability
     }
 }
 
+// A flag and no Option: what `read_capability` ensures of the capability and of its end holds also where it is not written exactly so.
 #[derive(Clone, Copy)]
 pub struct ReadCapability {
     pub exact: bool,

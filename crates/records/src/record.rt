@@ -106,7 +106,8 @@ fn role_fields(x: Role) -> [u64; 6]
     ]
 }
 
-// Writes a role at the front of a part; the bytes written.
+// Writes a role at the front of a part; the bytes written. `encoding` is generic over what is written: this is its line for a role, and
+// `put_session` that for a session.
 #[tactic(auto, using(crate::proofs::Layouts::role_written))]
 pub fn put_role(s: &mut [u8], x: Role) -> usize
     requires { length (write_role x) ≤ length s.old }

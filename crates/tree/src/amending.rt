@@ -15,7 +15,8 @@ use origins::terms::bare_allowance;
 use slots::guards::ensure;
 use sweeps::Sweep;
 
-// What a change asks for: it is in its range, is 0, would fall below 0; and the limit after it.
+// What a change asks for: it is in its range, is 0, would fall below 0; and the limit after it. Flags and no refusal: each is one test
+// of `amend_guards`, with tests of other things between them.
 #[derive(Clone, Copy)]
 pub struct Amendment {
     pub ranged: bool,
