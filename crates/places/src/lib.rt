@@ -29,13 +29,19 @@ pub struct Names {
     pub follow: Follow,
 }
 
-const NOTHING: Names = Names {
+const NONE: Names = Names {
     user: 0,
     role: 0,
     parent: 0,
     capability: 0,
     session: 0,
     follow: Follow::Nothing,
+};
+
+// A role that may change.
+const CHANGED: Names = Names {
+    follow: Follow::Role,
+    ..NONE
 };
 
 // The number of the role, or of the capability, that is named; 0 if it is the other.
@@ -61,46 +67,38 @@ pub fn names_of(q: LocalRequest) -> Names
     ensures { result ≡ names_of q }
 {
     match q {
-        LocalRequest::Enrol(user, _) => Names { user, ..NOTHING },
-        LocalRequest::Found(role, ..) | LocalRequest::Grant(role, _) => Names {
-            role,
-            follow: Follow::Role,
-            ..NOTHING
-        },
+        LocalRequest::Enrol(user, _) => Names { user, ..NONE },
+        LocalRequest::Found(role, ..) | LocalRequest::Grant(role, _) => Names { role, ..CHANGED },
         LocalRequest::Appoint(user, role) | LocalRequest::Dismiss(user, role) => Names {
             user,
             role,
-            follow: Follow::Role,
-            ..NOTHING
+            ..CHANGED
         },
-        LocalRequest::Clock(_) => NOTHING,
+        LocalRequest::Clock(_) => NONE,
         LocalRequest::Create(_, o, ..) => Names {
             role: role_in(o),
             parent: capability_in(o),
             follow: Follow::Count,
-            ..NOTHING
+            ..NONE
         },
         LocalRequest::Allow(_, capability, _) | LocalRequest::Lend(_, capability, _) => Names {
             capability,
             follow: Follow::Origin,
-            ..NOTHING
+            ..NONE
         },
-        LocalRequest::Hand(_, _, capability) => Names {
-            capability,
-            ..NOTHING
-        },
+        LocalRequest::Hand(_, _, capability) => Names { capability, ..NONE },
         LocalRequest::Open(session, _, o, _) => Names {
             role: role_in(o),
             capability: capability_in(o),
             session,
-            ..NOTHING
+            ..NONE
         },
         LocalRequest::Check(session, _, _) => Names {
             session,
             follow: Follow::Session,
-            ..NOTHING
+            ..NONE
         },
-        LocalRequest::Close(session) => Names { session, ..NOTHING },
+        LocalRequest::Close(session) => Names { session, ..NONE },
     }
 }
 
