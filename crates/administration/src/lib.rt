@@ -32,6 +32,7 @@ pub fn decide_enrol(v: Slots, user: u32, domain: u32) -> Decision
     settle(v, enrol_guards(v.enrolled, user, domain), 0, after)
 }
 
+// The masks come apart here and below, as the request has them.
 #[tactic(auto, unfolding(slots::specs::Guards::first_number))]
 fn found_guards(
     x: Role,

@@ -55,7 +55,7 @@ pub fn decide(v: Slots, columns: &RoleColumns, q: LocalRequest) -> Decision
 }
 
 // The same on a register in place: the elements are read, decided and put back. Where the parent stands at the capability's place,
-// the capability stays.
+// the capability stays. Clauses and no type say what holds before: the journal lends the one register that it changes.
 #[tactic(auto, using(crate::proofs::Commits::commit), unfolding(slots::specs::Slots::put))]
 pub fn perform(r: &mut Register, columns: &RoleColumns, q: LocalRequest) -> Answer
     requires formed { T (well_formed r.old) }

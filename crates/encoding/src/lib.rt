@@ -12,7 +12,7 @@ use model::{Capability, Register};
 pub mod length;
 mod section;
 
-// "pass count (2); the passes"; the bytes written.
+// "pass count (2); the passes"; the bytes written. The count is the register's own, of all its places: memory is fixed.
 #[tactic(auto, using(crate::proofs::Whole::counted_size, crate::proofs::Whole::counted_written))]
 fn put_counted(s: &mut [u8], count: usize, capabilities: &[Capability]) -> usize
     requires { (count ≤ length capabilities.now) × (length (counted_capabilities count capabilities.now) ≤ length s.old) }

@@ -81,7 +81,7 @@ pub fn mask_of<T: Marked>(items: &[T]) -> u64
     mask
 }
 
-// Writes an item where the bit is set; the bytes written.
+// Writes an item where the bit is set; the bytes written, which no conversion of the bit gives.
 fn put_if<T: Encode>(s: &mut [u8], bit: u64, item: T) -> usize
     requires { length (chosen bit (T.bytes item)) ≤ length s.old }
     ensures { Puts (chosen bit (T.bytes item)) result s.old s.new }

@@ -1,4 +1,4 @@
-// The C entry point, which document 01 calls the door: one image, one line, and the buffer for the new image.
+// The C entry point: one image, one line, and the buffer for the new image.
 #![tactic(auto)]
 
 ghost use Rattle.std.specs.Prelude.{◌≡◌, length};
@@ -30,7 +30,8 @@ fn sole_line(line: &[u8]) -> Option<Request>
     }
 }
 
-// The value v with the image of r, its length in two bytes before it; 16 where the area has no room, and then nothing is written.
+// The value v with the image of its register, the length in two bytes before it; 16 where the area has no room, and then nothing is
+// written.
 #[tactic(auto, using(buffers::proofs::Parts::length_tail, buffers::proofs::Parts::tail_back, crate::proofs::Laws::head_last, crate::proofs::Laws::save_said, crate::proofs::Laws::save_unsaid, crate::proofs::Laws::fitted_room, crate::proofs::Laws::fitted_none, crate::proofs::Laws::leaves_by))]
 fn deliver(area: &mut [u8], formed: WellFormed, v: u32) -> Answer
     ensures { (outcome_of result ≡ answer_returned (fitted (length area.old) v (encode formed.register))) × (area.new ≡ buffer_after (fitted (length area.old) v (encode formed.register)) area.old) }
@@ -62,8 +63,7 @@ fn enter(image: &[u8], line: &[u8], area: &mut [u8]) -> Answer
     ensures { (outcome_of result ≡ answer_returned (entry image.now line.now (length area.old))) × (area.new ≡ buffer_after (entry image.now line.now (length area.old)) area.old) }
 {
     let read = read_checked(image);
-    let exact = read.exact;
-    if !exact {
+    if !read.exact {
         return Err(Refusal::Image);
     }
     let Some(request) = sole_line(line) else {

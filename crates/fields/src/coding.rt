@@ -42,7 +42,7 @@ impl Coding {
         k
     }
 
-    // Writes a field where its bit of the map is set; the bytes written.
+    // Writes a field where its bit of the map is set; the bytes written, which no conversion of the bit gives.
     #[inline(always)]
     pub(crate) fn put_if(self, bit: u64, s: &mut [u8], v: u64) -> usize
         requires { length (write_bit bit (coding_of self) v) ≤ length s.old }
@@ -64,7 +64,7 @@ impl Coding {
         }
     }
 
-    // The field at `at` where its bit of the map is set, else 0.
+    // The field at `at` where its bit of the map is set, else 0; a product with the bit would read where there is none.
     #[inline(always)]
     pub(crate) fn read_if(self, bit: u64, s: &[u8], at: usize) -> u64
         requires { (at < 65536) × (width (coding_of self) ≤ 8) }

@@ -44,7 +44,7 @@ const CHANGED: Names = Names {
     ..NONE
 };
 
-// The number of the role, or of the capability, that is named; 0 if it is the other.
+// The number of the role, or of the capability, that is named; 0 if it is the other. Two functions, since they index two arrays.
 fn role_in(o: Named) -> u32
     ensures { result ≡ role_in o }
 {

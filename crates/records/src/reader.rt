@@ -26,7 +26,8 @@ fn role_of(f: [u64; 6]) -> Role
     }
 }
 
-// Roles and sessions are each read by their own layout into their own type; a trait for the two would say no less than these lines.
+// Roles and sessions are each read by their own layout into their own type; a trait for the two would say no less than these lines. Where
+// they may begin, and that s holds bytes, stand as clauses, as where numbers are read.
 #[tactic(auto, using(crate::proofs::Layouts::role_fitted, crate::proofs::Layouts::role_reads))]
 pub fn read_role(s: &[u8], at: usize) -> Role
     requires { (at < 60000) × Bytes s.now }
@@ -48,7 +49,7 @@ fn origin_of(kind: u64, n: u64) -> Origin
     }
 }
 
-// A session of its fields.
+// A session of its fields, numbered as in its layout and in the definitions.
 #[tactic(auto, unfolding(model::specs::Fields::session_codings, model::specs::Fields::session_of))]
 fn session_of(f: [u64; 6]) -> Session
     requires { Fitted session_codings f }
@@ -73,7 +74,7 @@ pub fn read_session(s: &[u8], at: usize) -> Session
     session_of(fields)
 }
 
-// A capability of its head and its fields.
+// A capability of its head and its fields, numbered likewise.
 #[tactic(auto, using(fields::proofs::Reading::bits_of, fields::proofs::Reading::fitted_fits), unfolding(model::specs::Fields::head_codings, model::specs::Fields::capability_of, model::specs::Fields::capability_codings))]
 fn capability_of(h: [u64; 4], f: [u64; 15]) -> Capability
     requires { Fitted head_codings h × Fitted capability_codings f }

@@ -81,7 +81,8 @@ fn permitted(
 }
 
 // The answer to a check, where yes is the value 1 (§6.13.2), by its session and the role and the capability that this may be on.
-// Nothing changes, so that a caller who holds the register needs nothing else. `decide_check` does not call it: a function with one caller, here the journal, is inlined.
+// Nothing changes, so that a caller who holds the register needs nothing else. `decide_check` does not call it: a function with one
+// caller, here the journal, is inlined. The arguments of check and open come apart, as the requests have them.
 pub fn answer_check(
     tick: u32,
     s: Session,

@@ -61,7 +61,8 @@ fn reply<W: Write, E: Eprint>(rt: &E, writer: &mut W, input: &[u8], out: &mut [u
     written
 }
 
-// Plays what a reader gives; `play` below has the room for answers in a type. Where it cannot be read to its end, that is told on standard error and nothing is answered.
+// Plays what a reader gives. Where it cannot be read to its end, that is told on standard error and nothing is answered. The room for
+// answers is a clause, as slices have it; `play` below has it in a type.
 pub fn play_streams<R: Read, W: Write, E: Eprint>(
     rt: &E,
     reader: &mut R,

@@ -1,5 +1,5 @@
-// What the program's arguments ask for in place of a journal. No contract of the libraries says what an argument holds, so what is proved is what a word
-// asks for.
+// What the program's arguments ask for in place of a journal. No contract of the libraries says what an argument holds, so what is proved
+// is what a word asks for.
 ghost use Rattle.std.specs.Prelude.{◌≡◌};
 ghost use Rattle.terminal.specs.Options.{asked};
 

@@ -61,6 +61,11 @@ abbrev pub Leaves : {A : Type 0} → List ℕ → Maybe (A × Bor (List ℕ)) �
 Leaves s (Some read) = read.1.now ≡ past_word s
 Leaves s None = Unit {0}
 
+-- the same of a reader that reads two words
+abbrev pub LeavesTwo : {A : Type 0} → List ℕ → Maybe (A × Bor (List ℕ)) → Type 0
+LeavesTwo s (Some read) = read.1.now ≡ past_word (past_word s)
+LeavesTwo s None = Unit {0}
+
 -- a reader that reads only some numbers: what it reads is right
 abbrev pub Short : List ℕ → Maybe (ℕ × Bor (List ℕ)) → Type 0
 Short s (Some read) = (number_of (Some read) ≡ first_number (after 32 s)) × (read.1.now ≡ past_word s)

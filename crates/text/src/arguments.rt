@@ -2,7 +2,7 @@
 ghost use Rattle.std.specs.Prelude.{◌≡◌};
 ghost use Rattle.model.specs.Lines.{origin_in, change_in};
 ghost use Rattle.text.specs.Parts.{after};
-ghost use Rattle.text.specs.Readers.{name_of, named_of, first_name, by_of, last_change};
+ghost use Rattle.text.specs.Readers.{name_of, named_of, first_name, by_of, last_change, LeavesTwo};
 
 use crate::numbers::{read_decimal, read_number};
 use crate::parts::next_word;
@@ -22,7 +22,7 @@ fn name(kind: &[u8], n: u32) -> Option<Named>
 
 // `role` or `pass` with its number, and the rest after them.
 pub fn read_named(rest: &[u8]) -> Option<(Named, &[u8])>
-    ensures { named_of result ≡ first_name (after 32 rest.now) }
+    ensures { (named_of result ≡ first_name (after 32 rest.now)) × LeavesTwo rest.now result }
 {
     let (kind, rest) = next_word(rest)?;
     let (n, rest) = read_number(rest)?;
