@@ -93,8 +93,8 @@ pub fn perform(r: &mut Register, columns: &RoleColumns, q: LocalRequest) -> Answ
 }
 
 // What a call over the whole tree comes to, on a register that is known to be well-formed: nothing changes yet.
-pub fn order_of(formed: WellFormed, t: TreeRequest) -> Result<Order, Refusal>
-    ensures { order_effect formed.register result ≡ settled formed.register (tree_call t) }
+pub fn order_of(formed: &WellFormed, t: TreeRequest) -> Result<Order, Refusal>
+    ensures { order_effect formed.now.register result ≡ settled formed.now.register (tree_call t) }
 {
     match t {
         TreeRequest::Withdraw(role, permission) => withdraw_order(formed, role, permission),

@@ -63,10 +63,11 @@ fn perform_tree(r: &mut Register, columns: &mut RoleColumns, t: TreeRequest) -> 
     ensures effect { performed result r.new ≡ settled r.old (tree_call t) }
     ensures columns { Columns columns.new r.new.roles }
 {
-    match order_of(WellFormed { register: *r }, t)? {
+    let formed = WellFormed { register: *r };
+    match order_of(&formed, t)? {
         Order::Value(n) => Ok(n),
         Order::Sweep(s) => {
-            let reply = sweep_all(*r, s);
+            let reply = sweep_all(formed.register, s);
             *columns = columns_of(&reply.register.roles);
             *r = reply.register;
             reply.answer

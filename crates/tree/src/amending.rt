@@ -70,8 +70,8 @@ fn amend_guards(
 }
 
 #[tactic(auto, using(crate::proofs::AmendLaws::amend_refused, crate::proofs::AmendLaws::amend_passed))]
-pub fn amend_order(formed: WellFormed, user: u32, n: u32, change: Change) -> Result<Order, Refusal>
-    ensures { order_effect formed.register result ≡ settled formed.register (amend user n (change_of change)) }
+pub fn amend_order(formed: &WellFormed, user: u32, n: u32, change: Change) -> Result<Order, Refusal>
+    ensures { order_effect formed.now.register result ≡ settled formed.now.register (amend user n (change_of change)) }
 {
     let r = &formed.register;
     let at = (n % 256) as u8;

@@ -64,13 +64,13 @@ fn same_guards(count: u16, m: u32, n: u32) -> Result<(), Refusal>
 
 // The register stays as it is.
 #[tactic(auto, using(crate::proofs::SameLaws::same_refused, crate::proofs::SameLaws::first_created, crate::proofs::SameLaws::second_created))]
-pub fn same_order(formed: WellFormed, m: u32, n: u32) -> Result<Order, Refusal>
-    ensures { order_effect formed.register result ≡ settled formed.register (same m n) }
+pub fn same_order(formed: &WellFormed, m: u32, n: u32) -> Result<Order, Refusal>
+    ensures { order_effect formed.now.register result ≡ settled formed.now.register (same m n) }
 {
     let r = &formed.register;
     same_guards(r.count, m, n)?;
     let columns = columns_of(&r.roles);
-    let x = compared_of(&formed, &columns, (m % 256) as u8);
-    let y = compared_of(&formed, &columns, (n % 256) as u8);
+    let x = compared_of(formed, &columns, (m % 256) as u8);
+    let y = compared_of(formed, &columns, (n % 256) as u8);
     Ok(Order::Value(u32::from(x == y)))
 }

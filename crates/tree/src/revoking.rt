@@ -35,8 +35,8 @@ fn revoke_guards(
 }
 
 #[tactic(auto, using(crate::proofs::RevokeLaws::revoke_refused, crate::proofs::RevokeLaws::revoke_passed))]
-pub fn revoke_order(formed: WellFormed, user: u32, n: u32) -> Result<Order, Refusal>
-    ensures { order_effect formed.register result ≡ settled formed.register (revoke user n) }
+pub fn revoke_order(formed: &WellFormed, user: u32, n: u32) -> Result<Order, Refusal>
+    ensures { order_effect formed.now.register result ≡ settled formed.now.register (revoke user n) }
 {
     let r = &formed.register;
     let at = (n % 256) as u8;

@@ -25,8 +25,8 @@ fn withdraw_guards(x: Role, role: u32, permission: u32) -> Result<(), Refusal>
 }
 
 #[tactic(auto, using(crate::proofs::WithdrawLaws::withdraw_refused, crate::proofs::WithdrawLaws::withdraw_passed))]
-pub fn withdraw_order(formed: WellFormed, role: u32, permission: u32) -> Result<Order, Refusal>
-    ensures { order_effect formed.register result ≡ settled formed.register (withdraw role permission) }
+pub fn withdraw_order(formed: &WellFormed, role: u32, permission: u32) -> Result<Order, Refusal>
+    ensures { order_effect formed.now.register result ≡ settled formed.now.register (withdraw role permission) }
 {
     let r = &formed.register;
     let x = r.roles[(role % 32) as usize];
