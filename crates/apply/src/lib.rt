@@ -31,7 +31,7 @@ fn apply_tree(formed: WellFormed, t: TreeRequest) -> Reply
     ensures { effect_of result ≡ settled formed.register (tree_call t) }
 {
     let r = formed.register;
-    match order_of(&formed, t) {
+    match order_of(&r, t) {
         Ok(Order::Sweep(s)) => sweep_all(r, s),
         Ok(Order::Value(value)) => Reply {
             answer: Ok(value),

@@ -15,7 +15,6 @@ use administration::{
 };
 use creation::decide_create;
 use giving::{decide_allow, decide_hand, decide_lend};
-use model::formed::WellFormed;
 use model::{Answer, LocalRequest, Refusal, Register, TreeRequest};
 use origins::authority::RoleColumns;
 use places::{capability_at, names_of, parent_at, role_at, session_at, user_at};
@@ -93,13 +92,14 @@ pub fn perform(r: &mut Register, columns: &RoleColumns, q: LocalRequest) -> Answ
 }
 
 // What a call over the whole tree comes to, on a register that is known to be well-formed: nothing changes yet.
-pub fn order_of(formed: &WellFormed, t: TreeRequest) -> Result<Order, Refusal>
-    ensures { order_effect formed.now.register result ≡ settled formed.now.register (tree_call t) }
+pub fn order_of(r: &Register, t: TreeRequest) -> Result<Order, Refusal>
+    requires { T (well_formed r.now) }
+    ensures { order_effect r.now result ≡ settled r.now (tree_call t) }
 {
     match t {
-        TreeRequest::Withdraw(role, permission) => withdraw_order(formed, role, permission),
-        TreeRequest::Amend(user, number, change) => amend_order(formed, user, number, change),
-        TreeRequest::Revoke(user, number) => revoke_order(formed, user, number),
-        TreeRequest::Same(m, n) => same_order(formed, m, n),
+        TreeRequest::Withdraw(role, permission) => withdraw_order(r, role, permission),
+        TreeRequest::Amend(user, number, change) => amend_order(r, user, number, change),
+        TreeRequest::Revoke(user, number) => revoke_order(r, user, number),
+        TreeRequest::Same(m, n) => same_order(r, m, n),
     }
 }

@@ -9,19 +9,19 @@ ghost use Rattle.model.specs.Requests.{local_call, tree_call};
 ghost use Rattle.model.specs.Journal.{line_effect, transcript};
 ghost use Rattle.origins.specs.Authority.{Columns};
 ghost use Rattle.dispatch.specs.Decide.{performed};
+ghost use Rattle.sweeps.specs.Sweeping.{swept_by};
 ghost use Rattle.player.specs.Play.{journal_length, journal_buffer};
 
 use crate::step::{Step, step_of};
 use answers::print;
 use dispatch::{order_of, perform};
-use model::formed::WellFormed;
 use model::{Answer, Context, LocalRequest, Refusal, Register, TreeRequest};
 use origins::authority::{RoleColumns, columns_of};
 use origins::numbers::{capability_held, role_held};
 use places::{changes_role, names_of};
 use rules::well_formed;
 use sessions::answer_check;
-use sweeps::sweep_all;
+use sweeps::{Sweep, sweep_all};
 use text::parts::count_before;
 use tree::orders::Order;
 
@@ -43,6 +43,7 @@ fn checked(r: &Register, columns: &RoleColumns, number: u32, permission: u32, at
 // A call that changes only elements that it names. The columns stay where it changes no role. That the register keeps the rules is a
 // clause and no type: a journal may begin with one that breaks them, and to wrap it for each line would copy it.
 #[tactic(auto, using(dispatch::proofs::Columns::columns_stay))]
+#[inline(never)]
 fn perform_local(r: &mut Register, columns: &mut RoleColumns, q: LocalRequest) -> Answer
     requires formed { T (well_formed r.old) }
     requires columns { Columns columns.old r.old.roles }
@@ -56,6 +57,19 @@ fn perform_local(r: &mut Register, columns: &mut RoleColumns, q: LocalRequest) -
     answer
 }
 
+// A sweep by value. It is no part of `perform_tree`, as a function pays for its locals when it is entered, and most calls only read.
+#[inline(never)]
+fn sweep(r: &mut Register, columns: &mut RoleColumns, s: Sweep) -> Answer
+    requires { length r.old.roles ≡ 32 }
+    ensures effect { performed result r.new ≡ swept_by r.old s }
+    ensures columns { Columns columns.new r.new.roles }
+{
+    let reply = sweep_all(*r, s);
+    *columns = columns_of(&reply.register.roles);
+    *r = reply.register;
+    reply.answer
+}
+
 // A call over the whole tree.
 fn perform_tree(r: &mut Register, columns: &mut RoleColumns, t: TreeRequest) -> Answer
     requires formed { T (well_formed r.old) }
@@ -63,15 +77,9 @@ fn perform_tree(r: &mut Register, columns: &mut RoleColumns, t: TreeRequest) -> 
     ensures effect { performed result r.new ≡ settled r.old (tree_call t) }
     ensures columns { Columns columns.new r.new.roles }
 {
-    let formed = WellFormed { register: *r };
-    match order_of(&formed, t)? {
+    match order_of(r, t)? {
         Order::Value(n) => Ok(n),
-        Order::Sweep(s) => {
-            let reply = sweep_all(formed.register, s);
-            *columns = columns_of(&reply.register.roles);
-            *r = reply.register;
-            reply.answer
-        }
+        Order::Sweep(s) => sweep(r, columns, s),
     }
 }
 

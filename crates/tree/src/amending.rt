@@ -1,5 +1,6 @@
 // amend, on a register that is known to be well-formed.
-ghost use Rattle.std.specs.Prelude.{◌≡◌};
+ghost use Rattle.std.specs.Prelude.{◌≡◌, T};
+ghost use Rattle.model.specs.Rules.{well_formed};
 ghost use Rattle.model.specs.Calls.{settled, amend};
 ghost use Rattle.model.specs.Requests.{change_of};
 ghost use Rattle.slots.specs.Guards.{guarded, first_number};
@@ -8,8 +9,7 @@ ghost use Rattle.tree.specs.Orders.{amendment_of, order_effect};
 
 use crate::orders::Order;
 use masks::member;
-use model::formed::WellFormed;
-use model::{Capability, Change, Refusal};
+use model::{Capability, Change, Refusal, Register};
 use origins::numbers::capability_held;
 use origins::terms::bare_allowance;
 use slots::guards::ensure;
@@ -70,10 +70,10 @@ fn amend_guards(
 }
 
 #[tactic(auto, using(crate::proofs::AmendLaws::amend_refused, crate::proofs::AmendLaws::amend_passed))]
-pub fn amend_order(formed: &WellFormed, user: u32, n: u32, change: Change) -> Result<Order, Refusal>
-    ensures { order_effect formed.now.register result ≡ settled formed.now.register (amend user n (change_of change)) }
+pub fn amend_order(r: &Register, user: u32, n: u32, change: Change) -> Result<Order, Refusal>
+    requires { T (well_formed r.now) }
+    ensures { order_effect r.now result ≡ settled r.now (amend user n (change_of change)) }
 {
-    let r = &formed.register;
     let at = (n % 256) as u8;
     let c = r.capabilities[usize::from(at)];
     let parent = r.capabilities[usize::from(capability_held(c.origin))];

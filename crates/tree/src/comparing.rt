@@ -1,5 +1,6 @@
 // same, on a register that is known to be well-formed.
-ghost use Rattle.std.specs.Prelude.{◌≡◌, ◌<◌};
+ghost use Rattle.std.specs.Prelude.{◌≡◌, ◌<◌, T};
+ghost use Rattle.model.specs.Rules.{well_formed};
 ghost use Rattle.model.specs.Calls.{settled, same};
 ghost use Rattle.model.specs.Comparison.{same_guards, compared};
 ghost use Rattle.origins.specs.Authority.{Columns};
@@ -8,8 +9,7 @@ ghost use Rattle.tree.specs.Orders.{order_effect, numbers_of};
 
 use crate::lineage::root_of;
 use crate::orders::Order;
-use model::Refusal;
-use model::formed::WellFormed;
+use model::{Refusal, Register};
 use origins::authority::{RoleColumns, authority_in, columns_of};
 use slots::guards::ensure;
 
@@ -29,12 +29,12 @@ pub struct Compared {
 }
 
 #[tactic(auto, using(crate::proofs::SameLaws::compared_is))]
-fn compared_of(formed: &WellFormed, columns: &RoleColumns, n: u8) -> Compared
-    requires kept { Columns columns.now formed.now.register.roles }
-    requires created { n < formed.now.register.count }
-    ensures { numbers_of result ≡ compared formed.now.register n }
+fn compared_of(r: &Register, columns: &RoleColumns, n: u8) -> Compared
+    requires formed { T (well_formed r.now) }
+    requires kept { Columns columns.now r.now.roles }
+    requires created { n < r.now.count }
+    ensures { numbers_of result ≡ compared r.now n }
 {
-    let r = &formed.register;
     let c = r.capabilities[usize::from(n)];
     let root = root_of(&r.capabilities, n);
     Compared {
@@ -64,13 +64,13 @@ fn same_guards(count: u16, m: u32, n: u32) -> Result<(), Refusal>
 
 // The register stays as it is.
 #[tactic(auto, using(crate::proofs::SameLaws::same_refused, crate::proofs::SameLaws::first_created, crate::proofs::SameLaws::second_created))]
-pub fn same_order(formed: &WellFormed, m: u32, n: u32) -> Result<Order, Refusal>
-    ensures { order_effect formed.now.register result ≡ settled formed.now.register (same m n) }
+pub fn same_order(r: &Register, m: u32, n: u32) -> Result<Order, Refusal>
+    requires { T (well_formed r.now) }
+    ensures { order_effect r.now result ≡ settled r.now (same m n) }
 {
-    let r = &formed.register;
     same_guards(r.count, m, n)?;
     let columns = columns_of(&r.roles);
-    let x = compared_of(formed, &columns, (m % 256) as u8);
-    let y = compared_of(formed, &columns, (n % 256) as u8);
+    let x = compared_of(r, &columns, (m % 256) as u8);
+    let y = compared_of(r, &columns, (n % 256) as u8);
     Ok(Order::Value(u32::from(x == y)))
 }

@@ -1,5 +1,6 @@
 // revoke, on a register that is known to be well-formed.
-ghost use Rattle.std.specs.Prelude.{◌≡◌};
+ghost use Rattle.std.specs.Prelude.{◌≡◌, T};
+ghost use Rattle.model.specs.Rules.{well_formed};
 ghost use Rattle.model.specs.Calls.{settled, revoke};
 ghost use Rattle.slots.specs.Guards.{guarded, first_number};
 ghost use Rattle.model.specs.Revocation.{revoke_guards};
@@ -8,8 +9,7 @@ ghost use Rattle.tree.specs.Orders.{order_effect};
 use crate::lineage::created;
 use crate::orders::Order;
 use masks::member;
-use model::Refusal;
-use model::formed::WellFormed;
+use model::{Refusal, Register};
 use slots::guards::ensure;
 use sweeps::Sweep;
 
@@ -35,10 +35,10 @@ fn revoke_guards(
 }
 
 #[tactic(auto, using(crate::proofs::RevokeLaws::revoke_refused, crate::proofs::RevokeLaws::revoke_passed))]
-pub fn revoke_order(formed: &WellFormed, user: u32, n: u32) -> Result<Order, Refusal>
-    ensures { order_effect formed.now.register result ≡ settled formed.now.register (revoke user n) }
+pub fn revoke_order(r: &Register, user: u32, n: u32) -> Result<Order, Refusal>
+    requires { T (well_formed r.now) }
+    ensures { order_effect r.now result ≡ settled r.now (revoke user n) }
 {
-    let r = &formed.register;
     let at = (n % 256) as u8;
     let entitled = created(&r.capabilities, at, user);
     let revoked = r.capabilities[usize::from(at)].revoked;

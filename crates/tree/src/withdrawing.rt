@@ -1,5 +1,6 @@
 // withdraw, on a register that is known to be well-formed.
-ghost use Rattle.std.specs.Prelude.{◌≡◌};
+ghost use Rattle.std.specs.Prelude.{◌≡◌, T};
+ghost use Rattle.model.specs.Rules.{well_formed};
 ghost use Rattle.model.specs.Calls.{settled, withdraw};
 ghost use Rattle.slots.specs.Guards.{guarded, first_number};
 ghost use Rattle.model.specs.Administration.{withdrawing};
@@ -7,8 +8,7 @@ ghost use Rattle.tree.specs.Orders.{order_effect};
 
 use crate::orders::Order;
 use masks::{excluding, member};
-use model::formed::WellFormed;
-use model::{Refusal, Role};
+use model::{Refusal, Register, Role};
 use slots::guards::ensure;
 use sweeps::Sweep;
 
@@ -25,10 +25,10 @@ fn withdraw_guards(x: Role, role: u32, permission: u32) -> Result<(), Refusal>
 }
 
 #[tactic(auto, using(crate::proofs::WithdrawLaws::withdraw_refused, crate::proofs::WithdrawLaws::withdraw_passed))]
-pub fn withdraw_order(formed: &WellFormed, role: u32, permission: u32) -> Result<Order, Refusal>
-    ensures { order_effect formed.now.register result ≡ settled formed.now.register (withdraw role permission) }
+pub fn withdraw_order(r: &Register, role: u32, permission: u32) -> Result<Order, Refusal>
+    requires { T (well_formed r.now) }
+    ensures { order_effect r.now result ≡ settled r.now (withdraw role permission) }
 {
-    let r = &formed.register;
     let x = r.roles[(role % 32) as usize];
     withdraw_guards(x, role, permission)?;
     let left = excluding(x.permissions, permission % 32);

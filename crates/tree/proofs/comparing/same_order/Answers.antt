@@ -14,4 +14,4 @@ returns c =
     let x = c.compared_of-x in
     let y = c.compared_of-y in
     let equal : c.eq.result ≡ each (zip_with eqb (numbers_of x.result) (numbers_of y.result)) = simp and-true c.eq.ensures in
-    same_passed a.formed.now.register a.m a.n _ (c.in_ok-same_guards.ensures) refl (numbers_of x.result) (numbers_of y.result) _ _ x.ensures y.ensures equal c.from.ensures
+    same_passed a.r.now a.m a.n _ (c.in_ok-same_guards.ensures) refl (numbers_of x.result) (numbers_of y.result) _ _ x.ensures y.ensures equal c.from.ensures
