@@ -91,7 +91,8 @@ pub fn perform(r: &mut Register, columns: &RoleColumns, q: LocalRequest) -> Answ
     answer
 }
 
-// What a call over the whole tree comes to, on a register that is known to be well-formed: nothing changes yet.
+// What a call over the whole tree comes to, on a register that is known to be well-formed: nothing changes yet. A clause says so, as in
+// `tree`.
 pub fn order_of(r: &Register, t: TreeRequest) -> Result<Order, Refusal>
     requires { T (well_formed r.now) }
     ensures { order_effect r.now result ≡ settled r.now (tree_call t) }
