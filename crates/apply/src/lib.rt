@@ -1,84 +1,56 @@
 // Any request on a register, by value: the register is tested for the rules once, then the call.
 #![tactic(auto)]
 
-ghost use Rattle.std.specs.Prelude.{◌≡◌, T};
-ghost use Rattle.model.specs.Rules.{well_formed};
+ghost use Rattle.std.specs.Prelude.{◌≡◌};
 ghost use Rattle.model.specs.Calls.{settled, step};
 ghost use Rattle.model.specs.Requests.{effect_of, call_of, local_call, tree_call};
 
-use dispatch::{decide, order_of};
-use model::{Answer, LocalRequest, Refusal, Register, Reply, Request, TreeRequest};
+use dispatch::{order_of, perform};
+use model::formed::WellFormed;
+use model::{LocalRequest, Refusal, Register, Reply, Request, TreeRequest};
 use origins::authority::columns_of;
-use places::{capability_at, names_of, parent_at, role_at, seen, session_at, user_at};
 use rules::well_formed;
 use sweeps::sweep_all;
 use tree::orders::Order;
 
-// A call that changes only elements that it names: they are read, decided and put back. Where the parent stands at the capability's
-// place, the capability stays.
-#[tactic(auto, using(dispatch::proofs::Commits::commit), unfolding(slots::specs::Slots::put))]
-fn apply_local(r: Register, q: LocalRequest) -> Reply
-    requires { T (well_formed r) }
-    ensures { effect_of result ≡ settled r (local_call q) }
+// A call that changes only elements that it names.
+fn apply_local(formed: WellFormed, q: LocalRequest) -> Reply
+    ensures { effect_of result ≡ settled formed.register (local_call q) }
 {
-    let roles = r.roles;
-    let columns = columns_of(roles);
-    let m = names_of(q);
-    let un = user_at(m);
-    let sn = session_at(m);
-    let s = r.sessions[sn];
-    let cn = capability_at(m, s, r.count);
-    let c = r.capabilities[cn];
-    let rn = role_at(m, s, c);
-    let x = r.roles[rn];
-    let pn = parent_at(m, c);
-    let p = r.capabilities[pn];
-    let v = seen(r.clock, r.enrolled, r.count, r.domains[un], x, p, c, s);
-    let d = decide(v, &columns, q);
-    let w = d.slots;
-    let mut next = r;
-    next.clock = w.clock;
-    next.enrolled = w.enrolled;
-    next.count = w.count;
-    next.domains[un] = w.domain;
-    let x = w.role;
-    next.roles[rn] = x;
-    let x = w.parent;
-    next.capabilities[pn] = x;
-    let x = w.capability;
-    next.capabilities[cn] = x;
-    let x = w.session;
-    next.sessions[sn] = x;
-    let answer = d.answer;
+    let mut r = formed.register;
+    let columns = columns_of(&r.roles);
+    let answer = perform(&mut r, &columns, q);
     Reply {
-        answer: answer,
-        register: next,
+        answer,
+        register: r,
     }
 }
 
 // A call over the whole tree.
-fn apply_tree(r: Register, t: TreeRequest) -> Reply
-    requires { T (well_formed r) }
-    ensures { effect_of result ≡ settled r (tree_call t) }
+fn apply_tree(formed: WellFormed, t: TreeRequest) -> Reply
+    ensures { effect_of result ≡ settled formed.register (tree_call t) }
 {
-    let order = order_of(r, t);
-    match order {
-        Order::Answered(answer) => Reply {
-            answer: answer,
+    let r = formed.register;
+    match order_of(&r, t) {
+        Ok(Order::Sweep(s)) => sweep_all(r, s),
+        Ok(Order::Value(value)) => Reply {
+            answer: Ok(value),
             register: r,
         },
-        Order::Swept(s) => sweep_all(r, s),
+        Err(why) => Reply {
+            answer: Err(why),
+            register: r,
+        },
     }
 }
 
-// The call on a register that is known to be well-formed.
-pub fn apply_trusted(r: Register, q: Request) -> Reply
-    requires { T (well_formed r) }
-    ensures { effect_of result ≡ settled r (call_of q) }
+// The call on a register that keeps the rules.
+pub fn apply_trusted(formed: WellFormed, q: Request) -> Reply
+    ensures { effect_of result ≡ settled formed.register (call_of q) }
 {
     match q {
-        Request::Local(one) => apply_local(r, one),
-        Request::Tree(t) => apply_tree(r, t),
+        Request::Local(one) => apply_local(formed, one),
+        Request::Tree(t) => apply_tree(formed, t),
     }
 }
 
@@ -88,10 +60,10 @@ pub fn apply(r: Register, q: Request) -> Reply
     ensures { effect_of result ≡ step r (call_of q) }
 {
     if well_formed(r) {
-        apply_trusted(r, q)
+        apply_trusted(WellFormed { register: r }, q)
     } else {
         Reply {
-            answer: Answer::Refused(Refusal::Broken),
+            answer: Err(Refusal::Broken),
             register: r,
         }
     }

@@ -1,2 +1,2 @@
--- What is done of a list of requests, and what is still to be done, give the whole.
+-- What is done of a list of requests, one step further.
 pub mod Laws

@@ -4,20 +4,10 @@
 ghost use Rattle.std.specs.Prelude.{◌≡◌};
 ghost use Rattle.masks.specs.Bytes.{same_bytes};
 
-// Whether two slices have the same bytes.
-#[tactic(auto, using(crate::proofs::Comparing::same_more, crate::proofs::Comparing::same_less, crate::proofs::Comparing::same_long, crate::proofs::Comparing::same_done))]
+// Whether two slices have the same bytes: what `==` of slices comes to, by the definition that specifications cite.
+#[tactic(auto, using(crate::proofs::Comparing::same_pointwise))]
 pub fn same_bytes(a: &[u8], b: &[u8]) -> bool
     ensures { result ≡ same_bytes a.now b.now }
 {
-    if a.len() != b.len() {
-        return false;
-    }
-    let mut i = 0;
-    while i < a.len() {
-        if a[i] != b[i] {
-            return false;
-        }
-        i += 1;
-    }
-    true
+    a == b
 }

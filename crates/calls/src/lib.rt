@@ -1,4 +1,6 @@
-// The seventeen calls over the register by value: the whole reply is what the definitions say, refusal 15 included.
+// The seventeen calls over the register by value: the whole reply is what the definitions say, refusal 15 included. Each names the
+// request that it makes: `into()` in place of `Request::Local(..)` would be no plainer, since it hides to which family a call goes; and each takes
+// the arguments of its request one by one, as a caller has them.
 #![tactic(auto)]
 
 ghost use Rattle.std.specs.Prelude.{◌≡◌};

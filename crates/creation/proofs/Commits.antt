@@ -22,6 +22,7 @@ use Rattle.model.specs.Delegation.{create_ranges, creating, create_ruling, creat
 use Rattle.model.specs.Calls.{ruling, settled}
 use Rattle.model.specs.Requests.{named_origin, local_call}
 use Rattle.model.proofs.Settling.{passed}
+use Rattle.origins.specs.declared.authority.RoleColumns.{RoleColumns}
 use Rattle.origins.specs.Authority.{Columns}
 use Rattle.origins.proofs.Laws.{in_range_lem, placed_party, placed_terms}
 use Rattle.slots.specs.Slots.{Places, look, lifted}
@@ -35,7 +36,7 @@ counted_placed : (r : Register) (p : Places) (o : Origin) → OriginPlaced p o �
 counted_placed r p (ofRole k) e h = set-get_or _ _ _
 counted_placed r p (ofCapability n) e h = rw (e, in_range_lem n 256 h)
 
-pub create_commit : (r : Register) (p : Places) (columns : List ℕ) (user : ℕ) (o : Named) (at : Context) (plan : Plan) → Columns columns r.roles
+pub create_commit : (r : Register) (p : Places) (columns : RoleColumns) (user : ℕ) (o : Named) (at : Context) (plan : Plan) → Columns columns r.roles
     → p.capability ≡ r.count % 256 → OriginPlaced p (named_origin o)
     → lifted r p (create_decision (look r p) columns user o at plan) ≡ settled r (local_call (Create user o at plan))
 unfolding create_decision settled ruling create_ruling

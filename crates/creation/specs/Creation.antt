@@ -1,15 +1,16 @@
 -- Intermediate: the code's own terms, proved to come to the definitions of `model`.
 -- create over the elements that it names: the model's ruling, on the elements that are read.
-use Rattle.std.specs.Prelude.{List, ℕ, suc, ◌%◌}
+use Rattle.std.specs.Prelude.{List, [], ◌∷◌, ℕ, suc, ◌%◌, set}
 use Rattle.model.specs.declared.Origin.{Origin}
 use Rattle.model.specs.declared.Capability.{Capability}
 use Rattle.model.specs.declared.Named.{Named}
 use Rattle.model.specs.declared.Context.{Context}
 use Rattle.model.specs.declared.Plan.{Plan}
-use Rattle.model.specs.State.{plan_of, new_capability, Terms}
-use Rattle.model.specs.Rulings.{Effect, Ruling, into, ruled}
+use Rattle.model.specs.State.{plan_of, new_capability, Terms, claims, below}
+use Rattle.model.specs.Rulings.{Effect, Ruling, Guard, ◌unless◌, into, ruled}
 use Rattle.model.specs.Requests.{named_origin}
 use Rattle.model.specs.Delegation.{creating}
+use Rattle.origins.specs.declared.authority.RoleColumns.{RoleColumns}
 use Rattle.origins.specs.Numbers.{named_in}
 use Rattle.origins.specs.Terms.{party_in}
 use Rattle.slots.specs.declared.Slots.{Slots}
@@ -27,10 +28,15 @@ abbrev pub creating_from : Slots → Origin → Terms → ℕ → Named → Cont
 creating_from v o t user named at plan =
     creating v.clock v.enrolled v.count (party_in o v.role v.parent) t user (named_origin named) at plan
 
+-- the tests, on the new capability as it is made; it has the numbers of the request only where the ranges pass
+abbrev pub creation_tests : Slots → Origin → Terms → ℕ → Named → Context → Plan → List Guard
+creation_tests v o t user named at plan =
+    set (creating_from v o t user named at plan).guards 7 (11 unless (below (claims (made_of user named plan)) t ∷ []))
+
 -- with the terms that are read too
-abbrev pub creating_on : Slots → List ℕ → Origin → ℕ → Named → Context → Plan → Ruling Capability
+abbrev pub creating_on : Slots → RoleColumns → Origin → ℕ → Named → Context → Plan → Ruling Capability
 creating_on v column o user named at plan = creating_from v o (origin_terms v column o) user named at plan
 
-unfoldable pub create_decision : Slots → List ℕ → ℕ → Named → Context → Plan → Effect Slots
+unfoldable pub create_decision : Slots → RoleColumns → ℕ → Named → Context → Plan → Effect Slots
 create_decision v column user o at plan =
     ruled v (into (with_created_slots v (suc v.count) (created_in (named_origin o) v.parent)) (creating_on v column (named_origin o) user o at plan))

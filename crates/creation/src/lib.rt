@@ -8,44 +8,42 @@ ghost use Rattle.model.specs.Requests.{named_origin};
 ghost use Rattle.origins.specs.Terms.{terms_in};
 ghost use Rattle.slots.specs.Guards.{guarded, first_number};
 ghost use Rattle.slots.specs.Slots.{ruled_of};
-ghost use Rattle.creation.specs.Creation.{made_of, creating_from, create_decision};
+ghost use Rattle.creation.specs.Creation.{made_of, creation_tests, create_decision};
 
 use masks::member;
 use model::{Capability, Context, Named, Origin, Plan, Refusal};
+use origins::authority::RoleColumns;
 use origins::numbers::{named_range, origin_named};
-use origins::standing::{alive_in, creates_in, member_in, present_in};
+use origins::standing::Party;
 use origins::terms::{Allowance, admits, in_context, is_below};
 use slots::counting::created_in;
-use slots::guards::{Guarded, first, raised};
+use slots::guards::{ensure, raised};
 use slots::terms::origin_allows;
 use slots::{Decision, Slots, settle};
 
-// The numbers of a request are in their ranges; the first tick is at most the last.
-#[tactic(auto, using(masks::proofs::Truth::left_each))]
+// The numbers of a request are in their ranges; the first tick is at most the last. Here and in the other families a request's arguments
+// stand apart, as its line and its call have them: a struct of them would be made once and taken apart once.
 fn in_ranges(user: u32, origin: Named, at: Context, plan: Plan) -> bool
     ensures { result ≡ each (create_ranges user (named_origin origin) at plan) }
 {
-    let named = named_range(origin);
-    let context = in_context(at);
-    (user < 64)
-        & named
-        & context
-        & (plan.uses < 65536)
-        & (plan.creations < 65536)
-        & (plan.hops < 65536)
-        & (plan.hours < 16777216)
-        & (plan.places < 65536)
-        & (plan.devices < 65536)
-        & (plan.first <= plan.last)
+    user < 64
+        && named_range(origin)
+        && in_context(at)
+        && plan.uses < 65536
+        && plan.creations < 65536
+        && plan.hops < 65536
+        && plan.hours < 16777216
+        && plan.places < 65536
+        && plan.devices < 65536
+        && plan.first <= plan.last
 }
 
 // The new capability.
 fn made(user: u32, origin: Named, plan: Plan) -> Capability
     ensures { result ≡ made_of user origin plan }
 {
-    let o = origin_named(origin);
     Capability {
-        origin: o,
+        origin: origin_named(origin),
         creator: (user % 64) as u8,
         permissions: 0,
         lent: 0,
@@ -65,8 +63,8 @@ fn made(user: u32, origin: Named, plan: Plan) -> Capability
     }
 }
 
-// The tests of create, from the last to the first: the origin o is read from its slot and allows a.
-#[tactic(auto, using(slots::proofs::GuardLaws::test_when, slots::proofs::GuardLaws::test_unless, slots::proofs::GuardLaws::test_ranged, slots::proofs::GuardLaws::nothing_more, crate::proofs::Laws::made_exact))]
+// The tests of create: the origin o is read from its slot and allows a.
+#[tactic(auto, unfolding(slots::specs::Guards::first_number))]
 fn create_guards(
     v: Slots,
     o: Origin,
@@ -75,37 +73,35 @@ fn create_guards(
     origin: Named,
     at: Context,
     plan: Plan,
-) -> Guarded
-    ensures { guarded result ≡ first_number (creating_from v o (terms_in a) user origin at plan).guards }
+) -> Result<(), Refusal>
+    ensures { guarded result ≡ first_number (creation_tests v o (terms_in a) user origin at plan) }
 {
-    let c = v.parent;
-    let x = v.role;
-    let maker = member(v.enrolled, user);
-    let present = present_in(o, x, v.count);
-    let entitled = member_in(o, x, c, user);
-    let alive = alive_in(o, c, v.clock);
-    let creates = creates_in(o, c);
-    let grants = member(a.grants as u64, 0);
-    let ranged = in_ranges(user, origin, at, plan);
-    let admitted = admits(a, at);
-    let new = made(user, origin, plan);
-    let fits = is_below(new, a);
-    let k = first(!(v.count < 256), Refusal::Full, Guarded::Pass);
-    let k = first(!fits, Refusal::Exceeds, k);
-    let k = first(!creates, Refusal::Exhausted, k);
-    let k = first(!admitted, Refusal::Context, k);
-    let k = first(!alive, Refusal::Expired, k);
-    let k = first(a.revoked, Refusal::Revoked, k);
-    let k = first(!(entitled & grants), Refusal::Forbidden, k);
-    let k = first(!(maker & present), Refusal::Missing, k);
-    first(!ranged, Refusal::Range, k)
+    let party = Party {
+        origin: o,
+        role: &v.role,
+        capability: &v.parent,
+    };
+    ensure(in_ranges(user, origin, at, plan), Refusal::Range)?;
+    ensure(
+        member(v.enrolled, user) && party.present(v.count),
+        Refusal::Missing,
+    )?;
+    ensure(
+        party.has_member(user) && member(a.grants as u64, 0),
+        Refusal::Forbidden,
+    )?;
+    ensure(!a.revoked, Refusal::Revoked)?;
+    ensure(party.lives(v.clock), Refusal::Expired)?;
+    ensure(admits(a, at), Refusal::Context)?;
+    ensure(party.may_create(), Refusal::Exhausted)?;
+    ensure(is_below(made(user, origin, plan), a), Refusal::Exceeds)?;
+    ensure(v.count < 256, Refusal::Full)
 }
 
 // The slot `role` or `parent` is the origin, the slot `capability` the place of the new capability.
-#[tactic(auto, using(model::proofs::Settling::passed, origins::proofs::Laws::named_exact, slots::proofs::GuardLaws::raised_below, slots::proofs::CountLaws::created_below, crate::proofs::Laws::create_agrees, crate::proofs::Laws::made_exact), unfolding(crate::specs::Creation::create_decision))]
 pub fn decide_create(
     v: Slots,
-    columns: &[u32; 64],
+    columns: &RoleColumns,
     user: u32,
     origin: Named,
     at: Context,
@@ -115,12 +111,12 @@ pub fn decide_create(
 {
     let o = origin_named(origin);
     let a = origin_allows(v, columns, o);
-    let k = create_guards(v, o, a, user, origin, at, plan);
-    let p = created_in(o, v.parent);
-    let c = made(user, origin, plan);
-    let mut w = v;
-    w.count = raised(v.count, 256);
-    w.parent = p;
-    w.capability = c;
-    settle(v, k, v.count as u32, w)
+    let guards = create_guards(v, o, a, user, origin, at, plan);
+    let after = Slots {
+        count: raised(v.count, 256),
+        parent: created_in(o, v.parent),
+        capability: made(user, origin, plan),
+        ..v
+    };
+    settle(v, guards, v.count as u32, after)
 }

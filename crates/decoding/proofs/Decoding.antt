@@ -4,7 +4,6 @@ use mathlib.Core.List.{List}
 use Prim.Native.Nat.{ℕ, zero, suc, ◌+◌}
 use lib.ListN.{drop}
 use lib.Seq.{drop-drop}
-use Rattle.masks.specs.Bytes.{number_of, first_bytes}
 use Rattle.model.specs.declared.Role.{Role}
 use Rattle.model.specs.declared.Capability.{Capability}
 use Rattle.model.specs.declared.Session.{Session}
@@ -15,18 +14,12 @@ pub item-set : {A : Type 0} (blank : A) (read : List ℕ → A) (b : ℕ) (s : L
 item-set blank read zero s h = absurd (h refl)
 item-set blank read (suc b) s h = refl
 
-pub item_none : {A : Type 0} (blank : A) (read : List ℕ → A) (b : ℕ) (s : List ℕ) → b ≡ 0 → item_or blank read b s ≡ blank
-item_none blank read b s h = ap (λ (k : ℕ). item_or blank read k s) h
-
 -- what follows a section that begins at `at`
 pub after_section : (s : List ℕ) (w v k at m next : ℕ) → m ≡ map_at w (drop at s) → next ≡ at + (w + chosen_length v m k) → after_chosen w v k (drop at s) ≡ drop next s
 after_section s w v k at m next em en =
     drop-drop (w + chosen_length v (map_at w (drop at s)) k) at s
     ∙ ap (λ (x : ℕ). drop (at + (w + chosen_length v x k)) s) (sym em)
     ∙ ap (λ (x : ℕ). drop x s) (sym en)
-
-abbrev pub read_domain : List ℕ → ℕ
-read_domain t = number_of (first_bytes 1 t)
 
 -- ---- a register of its parts
 

@@ -1,14 +1,13 @@
 -- The items of a mask read one after another: a law for each turn of the loop.
-use mathlib.Core.Path.{◌≡◌, sym, ◌∙◌}
+use mathlib.Core.Path.{◌≡◌, sym, ap, ◌∙◌}
 use mathlib.Core.Bool.{Bool, true, ◌&&◌, and_assoc}
 use mathlib.Core.List.{List, ◌++◌}
 use Prim.Native.Nat.{ℕ, suc, ◌+◌, ◌-◌, ◌*◌, ◌/◌, ◌%◌, ◌≤◌, ◌<◌}
-use native.Mathlib.Nat.{sub-zero, mul-suc}
-use native.Mathlib.Numerals.{add-one}
+use native.Mathlib.Nat.{sub-zero}
 use native.Mathlib.Omega.{arith}
 use lib.ListN.{length, take, drop, set, length-set}
 use lib.Seq.{drop-drop}
-use Rattle.model.specs.Image.{item_or, read_chosen}
+use Rattle.model.specs.Image.{item_or, read_chosen, chosen_length}
 use Rattle.records.specs.Exact.{exact_session}
 use Rattle.decoding.specs.Exact.{exact_sessions}
 use Rattle.fields.proofs.Parts.{fill_step, fill_done}
@@ -25,29 +24,31 @@ chosen_turn blank read w k i at m v next s f whole hk hf ev en h =
 -- the loop that reads k items of w bytes by a mask, of which i are read
 module _ {A : Type 0} (blank : A) (read : List ℕ → A) (w k : ℕ) where
   pub record ChosenTo (s : List ℕ) (from mask : ℕ) (rows : List A) (at m i : ℕ) : Type 0 where
-    pub some : i ≤ k
     pub filled : take i rows ++ read_chosen blank read w m (k - i) (drop at s) ≡ read_chosen blank read w mask k (drop from s)
-    pub near : at ≤ from + w * i
+    pub reach : at + chosen_length w m (k - i) ≡ from + chosen_length w mask k
+    pub near : at ≤ from + 20 * i
     pub places : length rows ≡ k
 
   pub chosen_start : (s : List ℕ) (from mask : ℕ) (rows : List A) → length rows ≡ k → ChosenTo s from mask rows from mask 0
-  chosen_start s from mask rows l = record { some = omega arith; filled = rw sub-zero; near = omega arith; places = l }
+  chosen_start s from mask rows l = record { filled = rw sub-zero; reach = rw sub-zero; near = omega arith; places = l }
 
   module _ {s : List ℕ} {from mask : ℕ} {rows : List A} {at m i : ℕ} (l : ChosenTo s from mask rows at m i) where
-    pub chosen_more : i < k → (v : A) (n : ℕ) → v ≡ item_or blank read (m % 2) (drop at s) → (n ≡ m % 2 * w) × (n ≤ w)
+    pub chosen_more : i < k → w ≤ 20 → (v : A) (n : ℕ) → v ≡ item_or blank read (m % 2) (drop at s) → (n ≡ m % 2 * w) × (n ≤ w)
         → ChosenTo s from mask (set rows i v) (at + n) (m / 2) (i + 1)
-    chosen_more h v n ev en =
+    chosen_more h small v n ev en =
+        let e : k - i ≡ suc (k - (i + 1)) = omega arith in
+        let u : chosen_length w m (k - i) ≡ m % 2 * w + chosen_length w (m / 2) (k - (i + 1)) = ap (chosen_length w m) e in
         record {
-          some = omega arith;
           filled = chosen_turn blank read w k i at m v n s rows _ h (omega (arith, l.places)) ev en.0 l.filled;
-          near = rw (add-one, mul-suc) (omega (arith, l.near, en.1));
+          reach = omega (arith, l.reach, u, en.0);
+          near = omega (arith, l.near, en.1);
           places = simp length-set l.places;
         }
 
-    pub chosen_all : k ≤ i → rows ≡ read_chosen blank read w mask k (drop from s)
+    pub chosen_all : k ≤ i → (rows ≡ read_chosen blank read w mask k (drop from s)) × (at ≡ from + chosen_length w mask k)
     chosen_all h =
         let e : k - i ≡ 0 = omega arith in
-        sym (fill_done rows i (omega (arith, l.places))) ∙ (rw e at l.filled)
+        (sym (fill_done rows i (omega (arith, l.places))) ∙ (rw e at l.filled), omega (arith, rw e at l.reach))
 
 -- a turn of the loop that tests sessions
 pub sessions_turn : (i at m : ℕ) (s : List ℕ) (exact here : Bool) (next : ℕ) (whole : Bool) → i < 64

@@ -1,12 +1,12 @@
 -- The count, the capabilities and the sessions, read and tested on the way; the image of which they are the rest.
 use mathlib.Core.Path.{◌≡◌, refl, sym, ap, ap₂, ◌∙◌}
 use mathlib.Core.Bool.{Bool, true, ◌&&◌, and-true, and_assoc}
-use mathlib.Core.List.{List, ◌++◌}
+use mathlib.Core.List.{List, [], ◌++◌, append-nil}
 use Prim.Native.Nat.{ℕ, ◌+◌, ◌-◌, ◌*◌, ◌≤◌, ◌<◌, min}
 use native.Mathlib.Nat.{sub-zero, add_assoc}
 use native.Mathlib.Omega.{arith}
 use lib.Dec.{eqb}
-use lib.ListN.{length, take, drop, set, replicate, length-set, take-append-drop}
+use lib.ListN.{length, take, drop, set, replicate, length-set}
 use lib.Seq.{drop-drop}
 use Rattle.masks.specs.Bytes.{number_of, first_bytes}
 use Rattle.model.specs.declared.Role.{Role}
@@ -17,61 +17,45 @@ use Rattle.model.specs.State.{blank_role, blank_capability, blank_session}
 use Rattle.model.specs.Fields.{read_role, read_session, read_capability, capability_length}
 use Rattle.model.specs.Image.{read_chosen, chosen_length, read_capabilities, after_capabilities, map_at, after_chosen, decode}
 use Rattle.records.specs.Exact.{exact_capability, exact_capabilities, capabilities_length}
-use Rattle.decoding.specs.Exact.{exact_sessions, register_from, exact_from, exact_image}
-use Rattle.fields.proofs.Parts.{rest_step}
+use Rattle.decoding.specs.Exact.{read_domain, exact_sessions, exact_image}
+use Rattle.fields.proofs.Parts.{fill_done}
 use Rattle.records.proofs.Reading.{capability-length_small, capabilities_turn, after_turn, exact_turn, length_turn}
-use Rattle.decoding.proofs.Decoding.{after_section, read_domain, register_of, same_register}
+use Rattle.decoding.proofs.Decoding.{after_section, register_of, same_register}
 
 -- ---- the loop over n capabilities, of which i are read
 
 pub record ReadTo (s : List ℕ) (from n : ℕ) (rows : List Capability) (exact : Bool) (at i : ℕ) : Type 0 where
-  pub some : i ≤ n
-  pub filled : take i rows ++ (read_capabilities (n - i) (drop at s) ++ replicate (256 - n) blank_capability) ≡ read_capabilities n (drop from s) ++ replicate (256 - n) blank_capability
+  pub filled : take i rows ++ (read_capabilities (n - i) (drop at s) ++ []) ≡ read_capabilities n (drop from s) ++ []
   pub near : at ≤ from + 48 * i
-  pub blank : drop i rows ≡ replicate (256 - i) blank_capability
-  pub places : length rows ≡ 256
+  pub places : length rows ≡ n
   pub after : after_capabilities (n - i) (drop at s) ≡ after_capabilities n (drop from s)
   pub exactly : (exact && exact_capabilities (n - i) (drop at s)) ≡ exact_capabilities n (drop from s)
   pub reach : at + capabilities_length (n - i) (drop at s) ≡ from + capabilities_length n (drop from s)
 
-pub read_start : (s : List ℕ) (from n : ℕ) (rows : List Capability) → rows ≡ replicate 256 blank_capability → length rows ≡ 256 → ReadTo s from n rows true from 0
-read_start s from n rows e l =
-    record {
-      some = omega arith;
-      filled = rw sub-zero;
-      near = omega arith;
-      blank = e;
-      places = l;
-      after = rw sub-zero;
-      exactly = rw sub-zero;
-      reach = rw sub-zero;
-    }
+pub read_start : (s : List ℕ) (from n : ℕ) (rows : List Capability) → length rows ≡ n → ReadTo s from n rows true from 0
+read_start s from n rows l =
+    record { filled = rw sub-zero; near = omega arith; places = l; after = rw sub-zero; exactly = rw sub-zero; reach = rw sub-zero }
 
 module _ {s : List ℕ} {from n : ℕ} {rows : List Capability} {exact : Bool} {at i : ℕ} (l : ReadTo s from n rows exact at i) where
-  pub read_step : i < n → n ≤ 256 → (c : Capability) (here : Bool) (next : ℕ)
+  pub read_step : i < n → (c : Capability) (here : Bool) (next : ℕ)
       → c ≡ read_capability (drop at s) → next ≡ at + capability_length (drop at s) → here ≡ exact_capability (drop at s)
       → ReadTo s from n (set rows i c) (exact && here) next (i + 1)
-  read_step h k c here next ec en eh =
+  read_step h c here next ec en eh =
       record {
-        some = omega arith;
         filled = capabilities_turn n i at s rows c next _ _ h (omega (arith, l.places)) ec en l.filled;
         near = omega (arith, capability-length_small (drop at s), l.near);
-        blank = rest_step rows i 256 c blank_capability l.blank (omega arith);
         places = simp length-set l.places;
         after = after_turn n i at s next _ h en l.after;
         exactly = exact_turn n i at s exact here next _ h eh en l.exactly;
         reach = length_turn n i at s next _ h en l.reach;
       }
 
-  module _ (e : i ≡ n) where
+  module _ (e : n ≤ i) where
     none_left : n - i ≡ 0
     none_left = omega arith
 
-    pub read_rows : rows ≡ read_capabilities n (drop from s) ++ replicate (256 - n) blank_capability
-    read_rows =
-        sym (take-append-drop i rows)
-        ∙ ap (λ (x : List Capability). take i rows ++ x) (l.blank ∙ ap (λ (j : ℕ). replicate (256 - j) blank_capability) e)
-        ∙ (rw none_left at l.filled)
+    pub read_rows : rows ≡ read_capabilities n (drop from s)
+    read_rows = sym (fill_done rows i (omega (arith, l.places))) ∙ (rw none_left at l.filled) ∙ append-nil (read_capabilities n (drop from s))
 
     pub read_after : drop at s ≡ after_capabilities n (drop from s)
     read_after = rw none_left at l.after
@@ -82,7 +66,31 @@ module _ {s : List ℕ} {from n : ℕ} {rows : List Capability} {exact : Bool} {
     pub read_reach : at ≡ from + capabilities_length n (drop from s)
     read_reach = let z : at + 0 ≡ from + capabilities_length n (drop from s) = rw none_left at l.reach in omega arith
 
--- ---- from the count on
+-- ---- from the count on, which stands at `at`
+
+-- the register with what comes before the count
+abbrev register_from : ℕ → ℕ → List ℕ → List Role → List ℕ → Register
+register_from clock enrolled domains roles passes =
+    let count : ℕ = number_of (first_bytes 2 passes) in
+    let sessions : List ℕ = after_capabilities (min 256 count) (drop 2 passes) in
+    record {
+      clock = clock;
+      enrolled = enrolled;
+      domains = domains;
+      roles = roles;
+      count = count;
+      capabilities = read_capabilities (min 256 count) (drop 2 passes) ++ replicate (256 - min 256 count) blank_capability;
+      sessions = read_chosen blank_session read_session 6 (map_at 8 sessions) 64 (drop 8 sessions);
+    }
+
+-- each record is exact, and the last ends with the image
+abbrev exact_from : ℕ → ℕ → List ℕ → Bool
+exact_from at size passes =
+    let n : ℕ = min 256 (number_of (first_bytes 2 passes)) in
+    let sessions : List ℕ = after_capabilities n (drop 2 passes) in
+    exact_capabilities n (drop 2 passes)
+    && (exact_sessions (map_at 8 sessions) 64 (drop 8 sessions)
+    && eqb (at + 2 + capabilities_length n (drop 2 passes) + 8 + chosen_length 6 (map_at 8 sessions) 64) size)
 
 module _ (s : List ℕ) (from n k at m : ℕ) (en : n ≡ number_of (first_bytes 2 (drop from s))) (ek : k ≡ min 256 n)
     (after : drop at s ≡ after_capabilities k (drop (from + 2) s)) (em : m ≡ map_at 8 (drop at s)) where
@@ -120,12 +128,12 @@ module _ (s : List ℕ) (from n k at m : ℕ) (en : n ≡ number_of (first_bytes
         exact_capabilities k (drop 2 passes) && (exact_sessions (map_at 8 rest) 64 (drop 8 rest) && eqb (j + 8 + chosen_length 6 (map_at 8 rest) 64) size)
 
     pub rest_exact : exact ≡ exact_capabilities k (drop (from + 2) s) → at ≡ from + 2 + capabilities_length k (drop (from + 2) s)
-        → kinds ≡ exact_sessions m 64 (drop (at + 8) s) → x ≡ chosen_length 6 m 64
-        → ((exact && kinds) && eqb (at + 8 + x) size) ≡ exact_from from size passes
+        → kinds ≡ exact_sessions m 64 (drop (at + 8) s) → x ≡ at + 8 + chosen_length 6 m 64
+        → ((exact && kinds) && eqb x size) ≡ exact_from from size passes
     rest_exact ee ea es ex =
-        and_assoc exact kinds (eqb (at + 8 + x) size)
+        and_assoc exact kinds (eqb x size)
         ∙ ap₂ ◌&&◌ (ee ∙ ap (exact_capabilities k) (sym two))
-        (ap₂ ◌&&◌ (es ∙ ap₂ (λ (y : ℕ) (l : List ℕ). exact_sessions y 64 l) em (sym eight)) (ap (λ (y : ℕ). eqb (at + 8 + y) size) (ex ∙ ap (λ (y : ℕ). chosen_length 6 y 64) em)))
+        (ap₂ ◌&&◌ (es ∙ ap₂ (λ (y : ℕ) (l : List ℕ). exact_sessions y 64 l) em (sym eight)) (ap (λ (y : ℕ). eqb y size) (ex ∙ ap (λ (y : ℕ). at + 8 + chosen_length 6 y 64) em)))
         ∙ ap₂ (test k) there (ea ∙ ap (λ (l : List ℕ). from + 2 + capabilities_length k l) (sym two))
         ∙ ap (λ (j : ℕ). test j (after_capabilities j (drop 2 passes)) (from + 2 + capabilities_length j (drop 2 passes))) (ek ∙ ap (min 256) en)
 

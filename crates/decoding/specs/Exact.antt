@@ -1,45 +1,19 @@
 -- Intermediate: the code's own terms, proved to come to the definitions of `model`.
 -- What an image must be beside holding a register that keeps the rules, decided while it is read: `proofs/Exact.antt` of `image`
 -- shows that exactly such bytes are what their register saves.
-use Rattle.std.specs.Prelude.{Bool, true, ◌&&◌, List, ◌++◌, ℕ, zero, suc, ◌+◌, ◌-◌, ◌*◌, ◌/◌, ◌%◌, min, eqb, length, drop, replicate}
+use Rattle.std.specs.Prelude.{Bool, true, ◌&&◌, List, ℕ, zero, suc, ◌+◌, ◌*◌, ◌/◌, ◌%◌, min, eqb, length, drop}
 use Rattle.masks.specs.Bytes.{number_of, first_bytes}
-use Rattle.model.specs.declared.Role.{Role}
-use Rattle.model.specs.declared.Register.{Register}
-use Rattle.model.specs.State.{blank_capability, blank_session}
-use Rattle.model.specs.Fields.{read_session}
-use Rattle.model.specs.Image.{item_or, read_chosen, chosen_length, read_capabilities, after_capabilities, map_at, after_chosen}
+use Rattle.model.specs.Image.{item_or, chosen_length, after_capabilities, map_at, after_chosen}
 use Rattle.records.specs.Exact.{exact_capabilities, capabilities_length, exact_session}
+
+-- a user's domain byte
+abbrev pub read_domain : List ℕ → ℕ
+read_domain t = number_of (first_bytes 1 t)
 
 -- k sessions by the mask m
 abbrev pub exact_sessions : ℕ → ℕ → List ℕ → Bool
 exact_sessions m zero t = true
 exact_sessions m (suc k) t = item_or true exact_session (m % 2) t && exact_sessions (m / 2) k (drop (m % 2 * 6) t)
-
--- ---- from the count on, which stands at `at`
-
--- the register with what comes before the count
-abbrev pub register_from : ℕ → ℕ → List ℕ → List Role → List ℕ → Register
-register_from clock enrolled domains roles passes =
-    let count : ℕ = number_of (first_bytes 2 passes) in
-    let sessions : List ℕ = after_capabilities (min 256 count) (drop 2 passes) in
-    record {
-      clock = clock;
-      enrolled = enrolled;
-      domains = domains;
-      roles = roles;
-      count = count;
-      capabilities = read_capabilities (min 256 count) (drop 2 passes) ++ replicate (256 - min 256 count) blank_capability;
-      sessions = read_chosen blank_session read_session 6 (map_at 8 sessions) 64 (drop 8 sessions);
-    }
-
--- each record is exact, and the last ends with the image
-abbrev pub exact_from : ℕ → ℕ → List ℕ → Bool
-exact_from at size passes =
-    let n : ℕ = min 256 (number_of (first_bytes 2 passes)) in
-    let sessions : List ℕ = after_capabilities n (drop 2 passes) in
-    exact_capabilities n (drop 2 passes)
-    && (exact_sessions (map_at 8 sessions) 64 (drop 8 sessions)
-    && eqb (at + 2 + capabilities_length n (drop 2 passes) + 8 + chosen_length 6 (map_at 8 sessions) 64) size)
 
 -- each record is exact, and the records take all the bytes and no more
 unfoldable pub exact_image : List ℕ → Bool

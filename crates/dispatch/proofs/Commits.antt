@@ -1,6 +1,5 @@
 -- Every request over the elements that it names, put back, is the call of the model.
 use mathlib.Core.Path.{◌≡◌, refl, ap, ◌∙◌}
-use mathlib.Core.List.{List}
 use Prim.Native.Nat.{ℕ, ◌%◌}
 use lib.Dec.{T}
 use Rattle.model.specs.declared.Origin.{Origin}
@@ -19,6 +18,7 @@ use Rattle.slots.specs.declared.Decision.{Decision}
 use Rattle.slots.specs.Slots.{Places, look, ruled_of, lifted}
 use Rattle.slots.specs.Terms.{OriginPlaced, OnPlaced}
 use Rattle.origins.specs.Numbers.{role_held, capability_held}
+use Rattle.origins.specs.declared.authority.RoleColumns.{RoleColumns}
 use Rattle.origins.specs.Authority.{Columns}
 use Rattle.places.specs.declared.Names.{Names}
 use Rattle.places.specs.Requests.{names_of, places_in, capability_place, role_place, parent_place, role_in, capability_in}
@@ -45,7 +45,7 @@ session_placed : (p : Places) (o : Named) → p.role ≡ role_in o % 32 → p.ca
 session_placed p (nameRole k) a b = a
 session_placed p (nameCapability n) a b = b
 
-pub one_commit : (r : Register) (column : List ℕ) (q : LocalRequest) → T (well_formed r) → Columns column r.roles
+pub one_commit : (r : Register) (column : RoleColumns) (q : LocalRequest) → T (well_formed r) → Columns column r.roles
     → lifted r (places_in r (names_of q)) (decide_of (look r (places_in r (names_of q))) column q) ≡ settled r (local_call q)
 one_commit r column (Enrol user domain) k h = enrol_commit r _ user domain refl
 one_commit r column (Found role domain hours places devices) k h = found_commit r _ role domain hours places devices refl
@@ -72,7 +72,7 @@ one_commit r column (Check s permission at) k h =
 one_commit r column (Close s) k h = close_commit r _ s refl
 
 -- what was decided over the elements at the places of a request, and put back there
-pub committed : (r : Register) (p : Places) (column : List ℕ) (q : LocalRequest) (d : Decision) → T (well_formed r) → Columns column r.roles
+pub committed : (r : Register) (p : Places) (column : RoleColumns) (q : LocalRequest) (d : Decision) → T (well_formed r) → Columns column r.roles
     → p ≡ places_in r (names_of q) → ruled_of d ≡ decide_of (look r p) column q → lifted r p (ruled_of d) ≡ settled r (local_call q)
 committed r p column q d k h e ed =
     ap (lifted r p) ed
@@ -98,7 +98,7 @@ module _ (r : Register) (m : Names) (un sn cn rn pn : ℕ) where
       same : placed ≡ places_in r m
       same = rw (f.role, f.parent, f.capability, f.session, f.user) refl
 
-  pub commit : (column : List ℕ) (q : LocalRequest) (v : Slots) (d : Decision) → T (well_formed r) → Columns column r.roles
+  pub commit : (column : RoleColumns) (q : LocalRequest) (v : Slots) (d : Decision) → T (well_formed r) → Columns column r.roles
       → m ≡ names_of q → AtPlaces → v ≡ look r placed → ruled_of d ≡ decide_of v column q → lifted r placed (ruled_of d) ≡ settled r (local_call q)
   commit column q v d k h em f ev ed =
       committed r placed column q d k h (found q em f) (ed ∙ ap (λ (w : Slots). decide_of w column q) ev)

@@ -6,15 +6,18 @@ ghost use Rattle.model.specs.Rules.{well_formed};
 ghost use Rattle.model.specs.Calls.{settled};
 ghost use Rattle.slots.specs.Slots.{ruled_of};
 ghost use Rattle.tree.specs.Orders.{order_effect};
-ghost use Rattle.model.specs.Requests.{tree_call};
-ghost use Rattle.dispatch.specs.Decide.{decide_of};
+ghost use Rattle.model.specs.Requests.{local_call, tree_call};
+ghost use Rattle.origins.specs.Authority.{Columns};
+ghost use Rattle.dispatch.specs.Decide.{decide_of, performed};
 
 use administration::{
     decide_appoint, decide_clock, decide_dismiss, decide_enrol, decide_found, decide_grant,
 };
 use creation::decide_create;
 use giving::{decide_allow, decide_hand, decide_lend};
-use model::{LocalRequest, Register, TreeRequest};
+use model::{Answer, LocalRequest, Refusal, Register, TreeRequest};
+use origins::authority::RoleColumns;
+use places::{capability_at, names_of, parent_at, role_at, session_at, user_at};
 use sessions::{decide_check, decide_close, decide_open};
 use slots::{Decision, Slots};
 use tree::amending::amend_order;
@@ -24,7 +27,7 @@ use tree::revoking::revoke_order;
 use tree::withdrawing::withdraw_order;
 
 // A request that changes only elements that it names.
-pub fn decide(v: Slots, columns: &[u32; 64], q: LocalRequest) -> Decision
+pub fn decide(v: Slots, columns: &RoleColumns, q: LocalRequest) -> Decision
     ensures { ruled_of result ≡ decide_of v columns.now q }
 {
     match q {
@@ -50,10 +53,49 @@ pub fn decide(v: Slots, columns: &[u32; 64], q: LocalRequest) -> Decision
     }
 }
 
-// What a call over the whole tree comes to, on a register that is known to be well-formed: nothing changes yet.
-pub fn order_of(r: Register, t: TreeRequest) -> Order
-    requires { T (well_formed r) }
-    ensures { order_effect r result ≡ settled r (tree_call t) }
+// The same on a register in place: the elements are read, decided and put back. Where the parent stands at the capability's place,
+// the capability stays. Clauses and no type say what holds before: the journal lends the one register that it changes.
+#[tactic(auto, using(crate::proofs::Commits::commit), unfolding(slots::specs::Slots::put))]
+pub fn perform(r: &mut Register, columns: &RoleColumns, q: LocalRequest) -> Answer
+    requires formed { T (well_formed r.old) }
+    requires kept { Columns columns.now r.old.roles }
+    ensures { performed result r.new ≡ settled r.old (local_call q) }
+{
+    let names = names_of(q);
+    let user = user_at(names);
+    let session = session_at(names);
+    let s = r.sessions[session];
+    let capability = capability_at(names, s, r.count);
+    let c = r.capabilities[capability];
+    let role = role_at(names, s, c);
+    let parent = parent_at(names, c);
+    let v = Slots {
+        clock: r.clock,
+        enrolled: r.enrolled,
+        count: r.count,
+        domain: r.domains[user],
+        role: r.roles[role],
+        parent: r.capabilities[parent],
+        capability: c,
+        session: s,
+    };
+    let Decision { answer, slots } = decide(v, columns, q);
+    r.clock = slots.clock;
+    r.enrolled = slots.enrolled;
+    r.count = slots.count;
+    r.domains[user] = slots.domain;
+    r.roles[role] = slots.role;
+    r.capabilities[parent] = slots.parent;
+    r.capabilities[capability] = slots.capability;
+    r.sessions[session] = slots.session;
+    answer
+}
+
+// What a call over the whole tree comes to, on a register that is known to be well-formed: nothing changes yet. A clause says so, as in
+// `tree`.
+pub fn order_of(r: &Register, t: TreeRequest) -> Result<Order, Refusal>
+    requires { T (well_formed r.now) }
+    ensures { order_effect r.now result ≡ settled r.now (tree_call t) }
 {
     match t {
         TreeRequest::Withdraw(role, permission) => withdraw_order(r, role, permission),

@@ -7,20 +7,20 @@ use native.Mathlib.Nat.{zero-mul, one-mul, mul-one, add-mul, pow-suc}
 use native.Mathlib.Omega.{arith}
 use lib.Arith.{lt-one}
 use lib.Count.{ones, ones_step}
-use lib.ListN.{length, take, drop, get_or, length-append}
+use lib.ListN.{length, take, drop, get_or, length-append, drop_of_length-le}
 use lib.Seq.{length-take-le}
 use Rattle.masks.specs.Bytes.{bytes_of}
 use Rattle.masks.proofs.MaskLaws.{ones_zero}
+use Rattle.model.specs.declared.Capability.{Capability}
 use Rattle.model.specs.declared.Register.{Register}
-use Rattle.model.specs.declared.Role.{Role}
-use Rattle.model.specs.declared.Session.{Session}
 use Rattle.model.specs.State.{blank_capability}
 use Rattle.model.specs.Invariant.{WellFormed}
 use Rattle.model.specs.Fields.{bit, write_role, write_session, write_capability}
 use Rattle.model.specs.Image.{mask_where, chosen, write_chosen, write_capabilities, chosen_length, founded_roles, active_sessions, encode}
+use Rattle.encoding.specs.Sections.{is_founded, is_active}
 use Rattle.fields.proofs.Numbers.{length-bytes, length-map}
-use Rattle.records.proofs.Records.{role_size, session_size, capabilities_small, capabilities_step, capabilities_done}
-use Rattle.encoding.proofs.Turns.{bit_le, where_small}
+use Rattle.records.proofs.Records.{role_size, session_size, capabilities_small}
+use Rattle.encoding.proofs.Turns.{bit_le, where_small, capabilities-step}
 use Rattle.encoding.proofs.Whole.{mapped_size, counted_size, sections_size}
 
 -- ---- items of w bytes each
@@ -68,6 +68,7 @@ module _ (r : Register) where
   pub image_sum : {u f c s : ℕ} → u ≡ length (write_chosen (bytes_of 1) r.enrolled r.domains) → f ≡ length (write_chosen write_role (founded_roles r.roles) r.roles)
       → c ≡ length (write_capabilities (take r.count r.capabilities)) → s ≡ length (write_chosen write_session (active_sessions r.sessions) r.sessions)
       → 26 + u + f + c + s ≡ length (encode r)
+  unfolding founded_roles active_sessions
   image_sum {u} {f} {c} {s} eu ef ec es =
       sym (sections_size r ∙ size_sum u f c s (mapped_size 8 (bytes_of 1) r.enrolled r.domains ∙ ap (λ (x : ℕ). 8 + x) (sym eu)) (mapped_size 4 write_role (founded_roles r.roles) r.roles ∙ ap (λ (x : ℕ). 4 + x) (sym ef))
       (counted_size r.count r.capabilities ∙ ap (λ (x : ℕ). 2 + x) (sym ec)) (mapped_size 8 write_session (active_sessions r.sessions) r.sessions ∙ ap (λ (x : ℕ). 8 + x) (sym es)))
@@ -112,34 +113,29 @@ image_most r h =
 pub image_small : (r : Register) → WellFormed r → length (encode r) ≤ 13402
 image_small r h = omega (arith, image_most r h, h.count)
 
--- all but the capabilities from number i on has n bytes
-pub record LengthTo (r : Register) (n i : ℕ) : Type 0 where
+-- all but the capabilities from number i on, of those up to the count, has n bytes
+pub record LengthTo (r : Register) (cs : List Capability) (n i : ℕ) : Type 0 where
   pub formed : WellFormed r
-  pub below : i ≤ r.count
-  pub rest : n + length (write_capabilities (drop i (take r.count r.capabilities))) ≡ length (encode r)
+  pub rest : n + length (write_capabilities (drop i cs)) ≡ length (encode r)
 
-pub length_start : {r : Register} → WellFormed r → {u f s : ℕ} → u ≡ ones r.enrolled → f ≡ ones (founded_roles r.roles)
-    → s ≡ ones (active_sessions r.sessions) → LengthTo r (26 + u + f * 20 + s * 6) 0
+pub length_start : {r : Register} → WellFormed r → {u f s k : ℕ} → u ≡ ones r.enrolled → f ≡ ones (mask_where is_founded r.roles)
+    → s ≡ ones (mask_where is_active r.sessions) → k ≡ r.count → LengthTo r (take k r.capabilities) (26 + u + f * 20 + s * 6) 0
 unfolding founded_roles active_sessions
-length_start {r} h {u} {f} {s} eu ef es =
+length_start {r} h {u} {f} {s} {k} eu ef es ek =
     let users : u ≡ length (write_chosen (bytes_of 1) r.enrolled r.domains) = sym (mul-one u) ∙ chosen_counted (bytes_of 1) 1 (length-bytes 1) 64 r.domains h.user_places h.enrolled eu in
-    let roles = where_counted write_role 20 role_size (λ (x : Role). x.founded) 32 r.roles h.role_places ef in
-    let sessions = where_counted write_session 6 session_size (λ (x : Session). x.active) 64 r.sessions h.session_places es in
-    record { formed = h; below = omega arith; rest = omega (arith, image_sum r users roles refl sessions) }
+    let roles = where_counted write_role 20 role_size is_founded 32 r.roles h.role_places ef in
+    let sessions = where_counted write_session 6 session_size is_active 64 r.sessions h.session_places es in
+    record { formed = h; rest = rw ek (omega (arith, image_sum r users roles refl sessions)) }
 
-module _ {r : Register} {n i : ℕ} (f : LengthTo r n i) where
-  amount : r.count ≤ length r.capabilities
-  amount = omega (arith, f.formed.count, f.formed.capability_places)
-
-  pub length-step : i < r.count → {m : ℕ} → m ≡ length (write_capability (get_or r.capabilities i blank_capability)) → LengthTo r (n + m) (i + 1)
+module _ {r : Register} {cs : List Capability} {n i : ℕ} (f : LengthTo r cs n i) where
+  pub length-step : i < length cs → {m : ℕ} → m ≡ length (write_capability (get_or cs i blank_capability)) → LengthTo r cs (n + m) (i + 1)
   length-step h e =
-      let c : List ℕ = write_capability (get_or r.capabilities i blank_capability) in
-      let more : List ℕ = write_capabilities (drop (i + 1) (take r.count r.capabilities)) in
-      let split = ap length (capabilities_step r.count r.capabilities i h amount) ∙ length-append c more in
-      record { formed = f.formed; below = omega arith; rest = omega (arith, split, f.rest, e) }
+      let c : List ℕ = write_capability (get_or cs i blank_capability) in
+      let split = ap length (capabilities-step cs i h) ∙ length-append c (write_capabilities (drop (i + 1) cs)) in
+      record { formed = f.formed; rest = omega (arith, split, f.rest, e) }
 
   pub length_fits : n ≤ 13402
   length_fits = omega (arith, f.rest, image_small r f.formed)
 
-  pub length_done : r.count ≤ i → n ≡ length (encode r)
-  length_done h = omega (arith, f.rest, ap length (capabilities_done r.count r.capabilities i h amount))
+  pub length_done : length cs ≤ i → n ≡ length (encode r)
+  length_done h = omega (arith, f.rest, ap (λ (l : List Capability). length (write_capabilities l)) (drop_of_length-le cs h))

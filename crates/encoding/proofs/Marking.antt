@@ -1,43 +1,46 @@
 -- A loop that builds the mask of the items that pass a test, from the last item down: one law for what the loop owes, over the test.
-use mathlib.Core.Path.{◌≡◌, sym, ap, ◌∙◌}
+use mathlib.Core.Path.{◌≡◌, refl, sym, ap, ◌∙◌}
 use mathlib.Core.Bool.{Bool}
-use mathlib.Core.List.{List}
-use Prim.Native.Nat.{ℕ, ◌+◌, ◌-◌, ◌*◌, ◌^◌, ◌≤◌, ◌<◌}
+use mathlib.Core.List.{List, [], ◌∷◌, ◌++◌, append-nil, append_assoc}
+use Prim.Native.Nat.{ℕ, ◌+◌, ◌*◌, ◌^◌, ◌≤◌, ◌<◌}
 use native.Mathlib.Omega.{arith}
-use lib.Arith.{le-zero}
-use lib.Dec.{T, leb, leb→le}
-use lib.ListN.{length, drop, get_or, drop_of_length-le}
+use lib.ListN.{length, length-append}
 use lib.Pow.{pow_mono}
+use Rattle.std.proofs.lemmas.List.{nil_from_length}
 use Rattle.model.specs.Fields.{bit}
 use Rattle.model.specs.Image.{mask_where}
-use Rattle.encoding.proofs.Turns.{bit_le, where_step, where_below}
+use Rattle.encoding.proofs.Turns.{where_small}
 
--- m is the mask of the items from i on, of k
-pub record MaskFrom {A : Type 0} (test : A → Bool) (k : ℕ) (l : List A) (m i : ℕ) : Type 0 where
-  pub few : k ≤ 64
-  pub amount : length l ≡ k
-  pub below : i ≤ k
-  pub mask : m ≡ mask_where test (drop i l)
+-- m is the mask of the items that follow the front, which is left
+pub record MaskFrom {A : Type 0} (test : A → Bool) (l : List A) (m : ℕ) (front : List A) : Type 0 where
+  pub few : length l ≤ 64
+  pub passed : List A
+  pub split : l ≡ front ++ passed
+  pub mask : m ≡ mask_where test passed
 
-pub mask_start : {A : Type 0} {test : A → Bool} {k : ℕ} {l : List A} → T (leb k 64) → length l ≡ k → MaskFrom test k l 0 k
-mask_start {A} {test} {k} {l} t e =
-    record { few = leb→le k 64 t; amount = e; below = omega arith; mask = sym (ap (mask_where test) (drop_of_length-le l {i = k} (omega arith))) }
+pub mask_start : {A : Type 0} {test : A → Bool} {l : List A} → length l ≤ 64 → MaskFrom test l 0 l
+mask_start {A} {test} {l} h = record { few = h; passed = []; split = sym (append-nil l); mask = refl }
 
-module _ {A : Type 0} {test : A → Bool} {k : ℕ} {l : List A} {m i : ℕ} (f : MaskFrom test k l m i) where
-  -- one item more, where d stands for an item past the end: its bit fits 64
-  pub mask_fits : 0 < i → (d : A) {b : ℕ} → b ≡ bit (test (get_or l (i - 1) d)) → m * 2 + b < 2 ^ 64
-  mask_fits h d e =
-      let small : length l - i ≤ 63 = omega arith in
-      omega (arith, where_below test l i, pow_mono small, bit_le (test (get_or l (i - 1) d)))
+module _ {A : Type 0} {test : A → Bool} {l : List A} {m : ℕ} {front : List A} (f : MaskFrom test l m front) where
+  -- one item more
+  pub mask_step : (rest : List A) (x : A) → front ≡ rest ++ x ∷ [] → {b : ℕ} → b ≡ bit (test x) → MaskFrom test l (m * 2 + b) rest
+  mask_step rest x h {b} e =
+      record { few = f.few; passed = x ∷ f.passed; split = f.split ∙ ap (λ (k : List A). k ++ f.passed) h ∙ append_assoc rest (x ∷ []) f.passed; mask = omega (arith, f.mask) }
 
-  pub mask_step : 0 < i → (d : A) {b : ℕ} → b ≡ bit (test (get_or l (i - 1) d)) → MaskFrom test k l (m * 2 + b) (i - 1)
-  mask_step h d e =
-      record { few = f.few; amount = f.amount; below = omega arith; mask = omega (arith, where_step test l i d h (omega arith)) }
+  amount : length l ≡ length front + length f.passed
+  amount = ap length f.split ∙ length-append front f.passed
 
-  pub mask_small : m < 2 ^ k
-  mask_small =
-      let small : length l - i ≤ k = omega arith in
-      omega (arith, where_below test l i, pow_mono small)
+  mask_small : m < 2 ^ length f.passed
+  mask_small = omega (arith, f.mask, where_small test f.passed)
 
-  pub mask_done : i ≤ 0 → m ≡ mask_where test l
-  mask_done h = f.mask ∙ ap (λ (j : ℕ). mask_where test (drop j l)) (le-zero h)
+  -- its bit fits 64
+  pub mask_fits : (rest : List A) (x : A) → front ≡ rest ++ x ∷ [] → {b : ℕ} → b ≤ 1 → m * 2 + b < 2 ^ 64
+  mask_fits rest x h k =
+      let some : 0 < length front = rw (h, length-append) (omega arith) in
+      let n : length f.passed ≤ 63 = omega (arith, some, amount, f.few) in
+      omega (arith, mask_small, pow_mono n)
+
+  pub mask_done : length front ≡ 0 → (m ≡ mask_where test l) × (m < 2 ^ length l)
+  mask_done h =
+      let e : f.passed ≡ l = ap (λ (k : List A). k ++ f.passed) (sym (nil_from_length front h)) ∙ sym f.split in
+      (f.mask ∙ ap (mask_where test) e, rw (← e) mask_small)

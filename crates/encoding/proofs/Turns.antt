@@ -2,14 +2,16 @@
 use mathlib.Core.Path.{◌≡◌, refl, ap}
 use mathlib.Core.Bool.{Bool, true, false}
 use mathlib.Core.List.{List, [], ◌∷◌, ◌++◌}
-use Prim.Native.Nat.{ℕ, zero, suc, ◌+◌, ◌-◌, ◌*◌, ◌/◌, ◌%◌, ◌^◌, ◌≤◌, ◌<◌}
+use Prim.Native.Nat.{ℕ, zero, suc, ◌+◌, ◌/◌, ◌%◌, ◌^◌, ◌≤◌, ◌<◌}
 use native.Mathlib.Nat.{pow-suc}
 use native.Mathlib.Numerals.{add-one}
 use native.Mathlib.Omega.{arith}
-use lib.ListN.{length, drop, get_or, length-drop, drop_of_length-le}
+use lib.ListN.{length, drop, get_or, drop_of_length-le}
 use lib.Seq.{drop-cons}
-use Rattle.model.specs.Fields.{bit}
-use Rattle.model.specs.Image.{mask_where, chosen, write_chosen}
+use Rattle.model.specs.declared.Capability.{Capability}
+use Rattle.model.specs.State.{blank_capability}
+use Rattle.model.specs.Fields.{bit, write_capability}
+use Rattle.model.specs.Image.{mask_where, chosen, write_chosen, write_capabilities}
 
 -- ---- the mask of the items that pass
 
@@ -31,17 +33,10 @@ module _ {A : Type 0} (write : A → List ℕ) where
   pub chosen_done : (m : ℕ) (l : List A) (i : ℕ) → length l ≤ i → write_chosen write m (drop i l) ≡ []
   chosen_done m l i h = ap (write_chosen write m) (drop_of_length-le l h)
 
+pub capabilities-step : (cs : List Capability) (i : ℕ) → i < length cs
+    → write_capabilities (drop i cs) ≡ write_capability (get_or cs i blank_capability) ++ write_capabilities (drop (i + 1) cs)
+capabilities-step cs i h = rw (add-one, drop-cons cs i blank_capability)
+
 pub chosen-set : (b : ℕ) (s : List ℕ) → (b ≡ 0 → ⊥) → chosen b s ≡ s
 chosen-set zero s h = absurd (h refl)
 chosen-set (suc b) s h = refl
-
-module _ {A : Type 0} (p : A → Bool) (l : List A) (i : ℕ) where
-  pub where_step : (d : A) → 0 < i → i ≤ length l → mask_where p (drop (i - 1) l) ≡ mask_where p (drop i l) * 2 + bit (p (get_or l (i - 1) d))
-  where_step d h k =
-      let e : i - 1 < length l = omega arith in
-      let n : suc (i - 1) ≡ i = omega arith in
-      let split : mask_where p (drop (i - 1) l) ≡ bit (p (get_or l (i - 1) d)) + 2 * mask_where p (drop (suc (i - 1)) l) = ap (mask_where p) (drop-cons l (i - 1) d e) in
-      omega (arith, split, ap (λ (j : ℕ). mask_where p (drop j l)) n)
-
-  pub where_below : mask_where p (drop i l) < 2 ^ (length l - i)
-  where_below = rw length-drop at (where_small p (drop i l))

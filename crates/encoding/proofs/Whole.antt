@@ -9,8 +9,8 @@ use Rattle.masks.specs.Bytes.{bytes_of, map_bytes, front}
 use Rattle.model.specs.declared.Capability.{Capability}
 use Rattle.model.specs.declared.Register.{Register}
 use Rattle.model.specs.Fields.{write_role, write_session}
-use Rattle.model.specs.Image.{write_chosen, write_capabilities, founded_roles, active_sessions, encode}
-use Rattle.encoding.specs.Sections.{mapped, counted_capabilities}
+use Rattle.model.specs.Image.{mask_where, write_chosen, write_capabilities, founded_roles, active_sessions, encode}
+use Rattle.encoding.specs.Sections.{mapped, counted_capabilities, is_founded, is_active}
 use Rattle.fields.proofs.Numbers.{length-bytes, length-map}
 use Rattle.fields.proofs.Parts.{parts_written}
 use Rattle.fields.proofs.Putting.{Put}
@@ -22,14 +22,10 @@ module _ {A : Type 0} (w : ℕ) (write : A → List ℕ) (m : ℕ) (l : List A) 
   unfolding mapped
   mapped_size = length-append (map_bytes w m) (write_chosen write m l) ∙ rw length-map
 
-  -- a buffer with room for the section has it for the map and the items
-  pub mapped_room : {k : ℕ} (n : ℕ) → m ≡ k → length (mapped w write k l) ≤ n → w + length (write_chosen write m l) ≤ n
-  mapped_room n e h = omega (arith, mapped_size, rw (← e) at h)
-
-  pub mapped-written : (s : List ℕ) {t last : List ℕ} {q : ℕ} → w + length (write_chosen write m l) ≤ length s → t ≡ front (map_bytes w m) s
+  pub mapped_written : (s : List ℕ) {t last : List ℕ} {q : ℕ} → w + length (write_chosen write m l) ≤ length s → t ≡ front (map_bytes w m) s
       → Put (write_chosen write m l) w t q last → (w + q ≡ length (mapped w write m l)) × (put_mid w (length t - w) t last ≡ front (mapped w write m l) s)
   unfolding mapped
-  mapped-written s = parts_written (map_bytes w m) (write_chosen write m l) s refl (length-map w m)
+  mapped_written s = parts_written (map_bytes w m) (write_chosen write m l) s refl (length-map w m)
 
 module _ (n : ℕ) (cs : List Capability) where
   pub counted_size : length (counted_capabilities n cs) ≡ 2 + length (write_capabilities (take n cs))
@@ -48,16 +44,16 @@ module _ (r : Register) where
   users_bytes = mapped 8 (bytes_of 1) r.enrolled r.domains
 
   abbrev pub roles_bytes : List ℕ
-  roles_bytes = mapped 4 write_role (founded_roles r.roles) r.roles
+  roles_bytes = mapped 4 write_role (mask_where is_founded r.roles) r.roles
 
   abbrev pub capabilities_bytes : List ℕ
   capabilities_bytes = counted_capabilities r.count r.capabilities
 
   abbrev pub sessions_bytes : List ℕ
-  sessions_bytes = mapped 8 write_session (active_sessions r.sessions) r.sessions
+  sessions_bytes = mapped 8 write_session (mask_where is_active r.sessions) r.sessions
 
   pub encode_sections : encode r ≡ bytes_of 4 r.clock ++ (users_bytes ++ (roles_bytes ++ (capabilities_bytes ++ sessions_bytes)))
-  unfolding encode mapped counted_capabilities
+  unfolding encode founded_roles active_sessions mapped counted_capabilities
   encode_sections = sym (simp append_assoc)
 
   abbrev pub sections_size_lem : ℕ

@@ -1,36 +1,29 @@
 // The length of an image, of which nothing is written.
-ghost use Rattle.std.specs.Prelude.{◌≡◌, ◌≤◌, T, length};
+ghost use Rattle.std.specs.Prelude.{◌≡◌, ◌≤◌, length};
 ghost use Rattle.std.specs.Int.Count.{ones};
-ghost use Rattle.model.specs.Rules.{well_formed};
 ghost use Rattle.model.specs.Image.{encode};
 
-use crate::section::{active_mask, founded_mask};
-use model::Register;
+use crate::section::mask_of;
+use model::formed::WellFormed;
 use records::record::capability_length;
 
 // How many items a mask has.
 fn items(mask: u64) -> usize
     ensures { (result ≡ ones mask) × (result ≤ 64) }
 {
-    u64::count_ones(mask) as usize
+    mask.count_ones() as usize
 }
 
 // The bytes of the image of a register that keeps the rules: 26, one for each user, and those of its records.
-pub fn image_length(r: Register) -> usize
-    requires { T (well_formed r) }
-    ensures { result ≡ length (encode r) }
+pub fn image_length(formed: WellFormed) -> usize
+    ensures { result ≡ length (encode formed.register) }
 {
-    let roles = r.roles;
-    let sessions = r.sessions;
-    let count = r.count as usize;
-    let founded = items(founded_mask(roles));
-    let active = items(active_mask(sessions));
+    let r = &formed.register;
+    let founded = items(mask_of(&r.roles));
+    let active = items(mask_of(&r.sessions));
     let mut n = 26 + items(r.enrolled) + founded * 20 + active * 6;
-    let mut i = 0;
-    while i < count {
-        let c = r.capabilities[i];
-        n += capability_length(c);
-        i += 1;
+    for c in &r.capabilities[..usize::from(r.count)] {
+        n += capability_length(*c);
     }
     n
 }

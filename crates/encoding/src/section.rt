@@ -1,138 +1,126 @@
 // The sections of an image: the items of a mask, or the first of a list, one after another.
-ghost use Rattle.std.specs.Prelude.{◌≡◌, ◌<◌, ◌≤◌, length, take};
-ghost use Rattle.masks.specs.Bytes.{bytes_of, front};
+ghost use Rattle.std.specs.Prelude.{◌≡◌, ◌<◌, ◌≤◌, ◌^◌, Bool, List, ℕ, length};
+ghost use Rattle.masks.specs.Bytes.{bytes_of};
 ghost use Rattle.model.specs.Fields.{write_role, write_session};
-ghost use Rattle.model.specs.Image.{chosen, write_chosen, founded_roles, active_sessions, write_capabilities};
+ghost use Rattle.model.specs.Image.{chosen, write_chosen, mask_where, write_capabilities};
+ghost use Rattle.encoding.specs.Sections.{Puts, mapped, is_founded, is_active};
 
-use fields::number::put;
+use fields::number::{put, put_map};
 use model::{Capability, Role, Session};
-use records::record::{bit_of, put_capability, put_role, put_session};
+use records::record::{put_capability, put_role, put_session};
 
-// The mask of the founded roles.
-pub fn founded_mask(roles: [Role; 32]) -> u64
-    ensures { (result ≡ founded_roles roles) × (result < 4294967296) }
-{
-    let mut m: u64 = 0;
-    let mut i = 32;
-    while 0 < i {
-        i = i - 1;
-        let x = roles[i];
-        m = m * 2 + bit_of(x.founded);
-    }
-    m
+// What a section with a map holds: items that are each written as some bytes.
+pub trait Encode: Copy {
+    ghost bytes: { Self → List ℕ };
+
+    // Writes the item at the front of a part; the bytes written.
+    fn write(self, s: &mut [u8]) -> usize
+        requires { length (bytes self) ≤ length s.old }
+        ensures { Puts (bytes self) result s.old s.new };
 }
 
-// The mask of the open sessions.
-#[tactic(auto, unfolding(model::specs::Image::active_sessions))]
-pub fn active_mask(sessions: [Session; 64]) -> u64
-    ensures { result ≡ active_sessions sessions }
-{
-    let mut m: u64 = 0;
-    let mut i = 64;
-    while 0 < i {
-        i = i - 1;
-        let x = sessions[i];
-        m = m * 2 + bit_of(x.active);
+// A user's domain byte.
+impl Encode for u8 {
+    ghost bytes = { bytes_of 1 };
+
+    fn write(self, s: &mut [u8]) -> usize {
+        put(s, 1, u64::from(self));
+        1
     }
-    m
 }
 
-// Writes a domain byte where the bit is set; the bytes written.
-fn put_domain_if(s: &mut [u8], bit: u64, d: u8) -> usize
-    requires { length (chosen bit (bytes_of 1 d)) ≤ length s.old }
-    ensures { (result ≡ length (chosen bit (bytes_of 1 d))) × (s.new ≡ front (chosen bit (bytes_of 1 d)) s.old) }
-{
-    if bit == 0 {
-        return 0;
+impl Encode for Role {
+    ghost bytes = { write_role };
+
+    fn write(self, s: &mut [u8]) -> usize {
+        put_role(s, self)
     }
-    put(s, 1, d as u64);
-    1
 }
 
-// Writes a role where the bit is set; the bytes written.
-fn put_role_if(s: &mut [u8], bit: u64, x: Role) -> usize
-    requires { length (chosen bit (write_role x)) ≤ length s.old }
-    ensures { (result ≡ length (chosen bit (write_role x))) × (s.new ≡ front (chosen bit (write_role x)) s.old) }
-{
-    if bit == 0 {
-        return 0;
+impl Encode for Session {
+    ghost bytes = { write_session };
+
+    fn write(self, s: &mut [u8]) -> usize {
+        put_session(s, self)
     }
-    put_role(s, x)
 }
 
-// Writes a session where the bit is set; the bytes written.
-fn put_session_if(s: &mut [u8], bit: u64, x: Session) -> usize
-    requires { length (chosen bit (write_session x)) ≤ length s.old }
-    ensures { (result ≡ length (chosen bit (write_session x))) × (s.new ≡ front (chosen bit (write_session x)) s.old) }
-{
-    if bit == 0 {
-        return 0;
-    }
-    put_session(s, x)
+// Items that themselves say whether they stand in the map.
+pub trait Marked: Encode {
+    ghost marked: { Self → Bool };
+
+    fn is_marked(self) -> bool
+        ensures { result ≡ marked self };
 }
 
-// Writes "a domain byte each" for the users of a mask; the bytes written.
-pub fn put_domains(s: &mut [u8], domains: [u8; 64], mask: u64) -> usize
-    requires { length (write_chosen (bytes_of 1) mask domains) ≤ length s.old }
-    ensures { (result ≡ length (write_chosen (bytes_of 1) mask domains)) × (s.new ≡ front (write_chosen (bytes_of 1) mask domains) s.old) }
+impl Marked for Role {
+    ghost marked = { is_founded };
+
+    fn is_marked(self) -> bool {
+        self.founded
+    }
+}
+
+impl Marked for Session {
+    ghost marked = { is_active };
+
+    fn is_marked(self) -> bool {
+        self.active
+    }
+}
+
+// The mask of the items that are marked.
+pub fn mask_of<T: Marked>(items: &[T]) -> u64
+    requires { length items.now ≤ 64 }
+    ensures { (result ≡ mask_where T.marked items.now) × (result < 2 ^ length items.now) }
+{
+    let mut mask: u64 = 0;
+    for item in items.iter().rev() {
+        mask = mask * 2 + u64::from(item.is_marked());
+    }
+    mask
+}
+
+// Writes an item where the bit is set; the bytes written, which no conversion of the bit gives.
+fn put_if<T: Encode>(s: &mut [u8], bit: u64, item: T) -> usize
+    requires { length (chosen bit (T.bytes item)) ≤ length s.old }
+    ensures { Puts (chosen bit (T.bytes item)) result s.old s.new }
+{
+    if bit == 0 { 0 } else { item.write(s) }
+}
+
+// Writes the items of a mask; the bytes written.
+fn put_chosen<T: Encode>(s: &mut [u8], mask: u64, items: &[T]) -> usize
+    requires { length (write_chosen T.bytes mask items.now) ≤ length s.old }
+    ensures { Puts (write_chosen T.bytes mask items.now) result s.old s.new }
 {
     let mut at = 0;
-    let mut m = mask;
-    let mut i = 0;
-    while i < 64 {
-        let n = put_domain_if(&mut s[at..], m % 2, domains[i]);
-        at += n;
-        m = m / 2;
-        i += 1;
+    let mut left = mask;
+    for item in items {
+        at += put_if(&mut s[at..], left % 2, *item);
+        left /= 2;
     }
     at
 }
 
-// Writes the roles of a mask; the bytes written.
-pub fn put_roles(s: &mut [u8], roles: [Role; 32], mask: u64) -> usize
-    requires { length (write_chosen write_role mask roles) ≤ length s.old }
-    ensures { (result ≡ length (write_chosen write_role mask roles)) × (s.new ≡ front (write_chosen write_role mask roles) s.old) }
+// Writes a map of w bytes and the items that it has; the bytes written.
+#[tactic(auto, using(crate::proofs::Whole::mapped_size, crate::proofs::Whole::mapped_written))]
+pub fn put_mapped<T: Encode>(s: &mut [u8], w: usize, mask: u64, items: &[T]) -> usize
+    requires { length (mapped w T.bytes mask items.now) ≤ length s.old }
+    ensures { Puts (mapped w T.bytes mask items.now) result s.old s.new }
 {
-    let mut at = 0;
-    let mut m = mask;
-    let mut i = 0;
-    while i < 32 {
-        let n = put_role_if(&mut s[at..], m % 2, roles[i]);
-        at += n;
-        m = m / 2;
-        i += 1;
-    }
-    at
+    put_map(s, w, mask);
+    w + put_chosen(&mut s[w..], mask, items)
 }
 
-// Writes the sessions of a mask; the bytes written.
-pub fn put_sessions(s: &mut [u8], sessions: [Session; 64], mask: u64) -> usize
-    requires { length (write_chosen write_session mask sessions) ≤ length s.old }
-    ensures { (result ≡ length (write_chosen write_session mask sessions)) × (s.new ≡ front (write_chosen write_session mask sessions) s.old) }
+// Writes capabilities; the bytes written.
+pub fn put_capabilities(s: &mut [u8], capabilities: &[Capability]) -> usize
+    requires { length (write_capabilities capabilities.now) ≤ length s.old }
+    ensures { Puts (write_capabilities capabilities.now) result s.old s.new }
 {
     let mut at = 0;
-    let mut m = mask;
-    let mut i = 0;
-    while i < 64 {
-        let n = put_session_if(&mut s[at..], m % 2, sessions[i]);
-        at += n;
-        m = m / 2;
-        i += 1;
-    }
-    at
-}
-
-// Writes the first count capabilities; the bytes written.
-pub fn put_capabilities(s: &mut [u8], capabilities: [Capability; 256], count: usize) -> usize
-    requires { (count ≤ 256) × (length (write_capabilities (take count capabilities)) ≤ length s.old) }
-    ensures { (result ≡ length (write_capabilities (take count capabilities))) × (s.new ≡ front (write_capabilities (take count capabilities)) s.old) }
-{
-    let mut at = 0;
-    let mut i = 0;
-    while i < count {
-        let n = put_capability(&mut s[at..], capabilities[i]);
-        at += n;
-        i += 1;
+    for c in capabilities {
+        at += put_capability(&mut s[at..], *c);
     }
     at
 }

@@ -1,6 +1,6 @@
 // Origins, as the rules of one entry ask about them.
 ghost use Rattle.std.specs.Prelude.{◌≡◌};
-ghost use Rattle.model.specs.Rules.{is_origin, is_role_zero, earlier};
+ghost use Rattle.model.specs.Rules.{is_origin, earlier};
 
 use model::Origin;
 
@@ -9,16 +9,7 @@ pub fn is_origin(o: Origin) -> bool
 {
     match o {
         Origin::Role(k) => k < 32,
-        Origin::Capability(k) => (k as u16) < 256,
-    }
-}
-
-pub fn is_role_zero(o: Origin) -> bool
-    ensures { result ≡ is_role_zero o }
-{
-    match o {
-        Origin::Role(k) => k == 0,
-        Origin::Capability(_) => false,
+        Origin::Capability(_) => true,
     }
 }
 
@@ -29,6 +20,6 @@ pub fn is_earlier(n: usize, o: Origin) -> bool
 {
     match o {
         Origin::Role(_) => true,
-        Origin::Capability(k) => (k as usize) < n,
+        Origin::Capability(k) => usize::from(k) < n,
     }
 }

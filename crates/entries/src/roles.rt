@@ -4,7 +4,8 @@ ghost use Rattle.masks.specs.Tests.{each};
 ghost use Rattle.model.specs.Rules.{user_keeps, role_blank};
 ghost use Rattle.entries.specs.Limits.{role_with, role_keeps_with};
 
-use model::Role;
+use masks::member;
+use model::{Role, blank_role};
 
 // A user is of a domain once enrolled, and of domain 0 before.
 #[tactic(auto, using(masks::proofs::Truth::cond_true, masks::proofs::Truth::cond_false), unfolding(model::specs::Rules::user_keeps, masks::specs::Masks::has))]
@@ -12,8 +13,11 @@ pub fn user_keeps(enrolled: u64, u: usize, domain: u8) -> bool
     requires { u < 64 }
     ensures { result ≡ user_keeps enrolled u domain }
 {
-    let there = (enrolled >> u) % 2 == 1;
-    if there { domain < 8 } else { domain == 0 }
+    if member(enrolled, u as u32) {
+        domain < 8
+    } else {
+        domain == 0
+    }
 }
 
 // What is kept for a role not founded is 0.
@@ -21,12 +25,10 @@ pub fn user_keeps(enrolled: u64, u: usize, domain: u8) -> bool
 fn is_blank(x: Role) -> bool
     ensures { result ≡ role_blank x }
 {
-    (x.domain == 0)
-        & (x.permissions == 0)
-        & (x.hours == 0)
-        & (x.places == 0)
-        & (x.devices == 0)
-        & (x.appointed == 0)
+    x == Role {
+        founded: x.founded,
+        ..blank_role()
+    }
 }
 
 // The rules of a founded role; peers are the users of its domain.
@@ -34,10 +36,10 @@ fn is_blank(x: Role) -> bool
 fn keeps_all(enrolled: u64, peers: u64, x: Role) -> bool
     ensures { result ≡ each (role_with enrolled peers x) }
 {
-    (x.domain < 8)
-        & (x.hours < 16777216)
-        & (x.appointed & enrolled == x.appointed)
-        & (x.appointed & peers == x.appointed)
+    x.domain < 8
+        && x.hours < 16777216
+        && x.appointed & enrolled == x.appointed
+        && x.appointed & peers == x.appointed
 }
 
 #[tactic(auto, using(masks::proofs::Truth::cond_true, masks::proofs::Truth::cond_false))]

@@ -5,9 +5,9 @@ ghost use Rattle.model.specs.Rules.{session_blank};
 ghost use Rattle.origins.specs.Terms.{terms_in};
 ghost use Rattle.entries.specs.Limits.{session_with, session_keeps_with};
 
-use crate::limits::{is_origin, is_role_zero};
+use crate::limits::is_origin;
 use masks::member;
-use model::{Context, Session};
+use model::{Context, Session, blank_session};
 use origins::terms::{Allowance, admits, in_context};
 
 // What is kept for a session not open is 0.
@@ -15,9 +15,10 @@ use origins::terms::{Allowance, admits, in_context};
 fn is_blank(s: Session) -> bool
     ensures { result ≡ session_blank s }
 {
-    let o = s.on;
-    let zero = is_role_zero(o);
-    (s.user == 0) & zero & (s.hour == 0) & (s.place == 0) & (s.device == 0)
+    s == Session {
+        active: s.active,
+        ..blank_session()
+    }
 }
 
 // A session's context has its ranges and is admitted by its role or capability, which allows u.
@@ -25,17 +26,17 @@ fn is_blank(s: Session) -> bool
 fn keeps_all(enrolled: u64, there: bool, u: Allowance, s: Session) -> bool
     ensures { result ≡ each (session_with enrolled there (terms_in u) s) }
 {
-    let o = s.on;
-    let ranged = is_origin(o);
     let at = Context {
-        hour: s.hour as u32,
-        place: s.place as u32,
-        device: s.device as u32,
+        hour: u32::from(s.hour),
+        place: u32::from(s.place),
+        device: u32::from(s.device),
     };
-    let timely = in_context(at);
-    let known = member(enrolled, s.user as u32);
-    let admitted = admits(u, at);
-    (s.user < 64) & ranged & timely & known & there & admitted
+    s.user < 64
+        && is_origin(s.on)
+        && in_context(at)
+        && member(enrolled, u32::from(s.user))
+        && there
+        && admits(u, at)
 }
 
 #[tactic(auto, using(masks::proofs::Truth::cond_true, masks::proofs::Truth::cond_false), unfolding(crate::specs::Limits::session_keeps_with))]

@@ -10,6 +10,8 @@ use borrow.Author.Tests.{le-leb, lt-leb, leb-true, leb-false}
 use mir.Syntax.{w64}
 use mir.Val.{SFits, to_z, of_z}
 use mir.ValLaws.{to_z_pos, to_z-of_z}
+use Rattle.std.specs.Prelude.{Option as Maybe, Some, None, Result, Ok, Err}
+use native.Mathlib.Decide.{dec_le}
 use lib.Dec.{T, eqb, leb, ltb, lt→ltb}
 use lib.IntN.{ℤ, pos, negsuc, neg_ℤ, ◌-ℤ◌, +ℤ_idl}
 use lib.ListN.{length, take, drop, length-append, drop_of_length-le, get_or}
@@ -21,22 +23,19 @@ use Rattle.decoding.specs.declared.ReadImage.{ReadImage}
 use Rattle.model.specs.declared.Register.{Register}
 use Rattle.model.specs.declared.Request.{Request}
 use Rattle.model.specs.declared.Refusal.{Refusal}
-use Rattle.model.specs.declared.Answer.{Answer}
-use Rattle.model.specs.declared.Answer.TheVariants.{Value, Refused}
-use Rattle.model.specs.declared.Parsed.{Parsed}
-use Rattle.model.specs.declared.Parsed.TheVariants.{Line, NoRequest}
 use Rattle.model.specs.Rules.{well_formed}
-use Rattle.model.specs.Rulings.{value, refused, Effect, settle}
+use Rattle.model.specs.Rulings.{Outcome, value, refused, Effect, settle}
 use Rattle.model.specs.Calls.{Call, settled, step}
 use Rattle.model.specs.Requests.{refusal_number, outcome_of, call_of, parsed_call}
 use Rattle.model.specs.Lines.{parse}
 use Rattle.model.specs.Image.{encode, decode, loads, save_effect}
 use Rattle.model.specs.Entry.{Return, declined, done, sole_line, fitted, answered, called, entry, returned, buffer_after}
+use Rattle.model.specs.Runs.{answer_returned}
 use Rattle.model.proofs.Rules.{kept→, kept←}
 use Rattle.model.proofs.Running.{step_keeps, loads_kept}
 use Rattle.model.proofs.Settling.{step-settled}
 use Rattle.text.specs.Parts.{before, after}
-use Rattle.fellunqa.specs.Perform.{performed}
+use Rattle.fellunqa.specs.Perform.{performed, to_c}
 use Rattle.text.proofs.PartLaws.{take-before, split-before, after_more, after_end}
 
 -- ---- the line
@@ -63,16 +62,23 @@ module _ (line : List ℕ) (n : ℕ) (e : n ≡ length (before 10 line)) where
   parts h =
       split-before 10 line ∙ ap (λ (k : ℕ). before 10 line ∷ after 10 (drop k line)) (sym e) ∙ ap (λ (ws : List (List ℕ)). before 10 line ∷ ws) h
 
-  pub line-unended : n ≡ length line → none ≡ sole_line (split 10 line)
+  line-unended : n ≡ length line → none ≡ sole_line (split 10 line)
   line-unended h = let end : length line ≤ n = omega arith in ap sole_line (sym (parts (after_end 10 line n end)))
 
-  pub line_followed : n + 1 < length line → none ≡ sole_line (split 10 line)
+  line_followed : n + 1 < length line → none ≡ sole_line (split 10 line)
   line_followed h =
       let more : n < length line = omega arith in
       let next : suc n < length line = omega arith in
       let rest : drop (suc n) line ≡ get_or line (suc n) 0 ∷ drop (suc (suc n)) line = drop-cons line (suc n) 0 next in
       follows (before 10 line) (drop (suc (suc n)) line) (get_or line (suc n) 0)
       ∙ sym (ap sole_line (parts (after_more 10 line n more ∙ ap (split 10) rest)))
+
+  pub not_whole : n ≤ length line → (n + 1 ≡ length line → ⊥) → none ≡ sole_line (split 10 line)
+  not_whole l h = cases (dec_le (length line) n)
+    where
+      cases : Dec (length line ≤ n) → none ≡ sole_line (split 10 line)
+      cases (yes g) = line-unended (omega arith)
+      cases (no g) = line_followed (omega arith)
 
   pub line_whole : n + 1 ≡ length line → parse (take n line) ≡ sole_line (split 10 line)
   line_whole h =
@@ -129,12 +135,15 @@ module _ (r : Register) (formed : T (well_formed r)) (room : ℕ) where
           (q, leb-true _ _ l)
       cases false l = absurd (apart n 16 (e ∙ save_none (leb-false _ _ l)))
 
-  pub save_unsaid : (n : ℕ) → refused n ≡ (save_effect r room).answer → room < length (encode r)
+  pub save_unsaid : (n : ℕ) → refused n ≡ (save_effect r room).answer → (n ≡ 16) × (room < length (encode r))
   save_unsaid n e = cases (leb (length (encode r)) room) refl
     where
-      cases : (b : Bool) → leb (length (encode r)) room ≡ b → room < length (encode r)
+      cases : (b : Bool) → leb (length (encode r)) room ≡ b → (n ≡ 16) × (room < length (encode r))
       cases true l = absurd (apart (length (encode r)) n (sym (e ∙ save_room (leb-true _ _ l))))
-      cases false l = leb-false _ _ l
+      cases false l =
+          let v : refused n ≡ refused 16 = e ∙ save_none (leb-false _ _ l) in
+          let q : n ≡ 16 = cc in
+          (q, leb-false _ _ l)
 
 -- room for the image and its length, or not
 module _ (room v : ℕ) (image : List ℕ) where
@@ -147,8 +156,16 @@ module _ (room v : ℕ) (image : List ℕ) where
 -- ---- what the entry point comes to; l is what was read
 
 -- one return is as good as another
-pub leaves_by : (buffer : List ℕ) (p q : Return) → p ≡ q → (returned p ≡ returned q) × (buffer_after p buffer ≡ buffer_after q buffer)
-leaves_by buffer p q e = (ap returned e, ap (λ (x : Return). buffer_after x buffer) e)
+pub leaves_by : (buffer : List ℕ) (p q : Return) → p ≡ q → (answer_returned p ≡ answer_returned q) × (buffer_after p buffer ≡ buffer_after q buffer)
+leaves_by buffer p q e = (ap answer_returned e, ap (λ (x : Return). buffer_after x buffer) e)
+
+-- what C is given of the answer is what the entry point returns
+pub returned_is : (o : Outcome) (q : Return) → o ≡ answer_returned q → to_c o ≡ returned q
+returned_is o q e = ap to_c e ∙ cases q
+  where
+    cases : (q : Return) → to_c (answer_returned q) ≡ returned q
+    cases (declined n) = refl
+    cases (done v image) = refl
 
 module _ (image line : List ℕ) (room : ℕ) (l : ReadImage) (found : (l.exact ≡ loads image) × (l.register ≡ decode image)) where
   abbrev r : Register
@@ -172,11 +189,11 @@ module _ (image line : List ℕ) (room : ℕ) (l : ReadImage) (found : (l.exact 
     pub loaded_formed : T (well_formed r)
     loaded_formed = subst (λ (q : Register). T (well_formed q)) (sym read) (kept← (decode image) (loads_kept image (true→T (loads image) (sym found.0 ∙ h))))
 
-    module _ (q : Parsed) (e : parsed_call q ≡ sole_line (split 10 line)) where
-      pub no_line : q ≡ NoRequest → declined 1 ≡ entry image line room
+    module _ (q : Maybe Request) (e : parsed_call q ≡ sole_line (split 10 line)) where
+      pub no_line : q ≡ None → declined 1 ≡ entry image line room
       no_line g = sym (by_line ∙ ap (called room r) (sym e ∙ ap parsed_call g))
 
-      pub by_call : (p : Request) → q ≡ Line p → performed room r (call_of p) ≡ entry image line room
+      pub by_call : (p : Request) → q ≡ Some p → performed room r (call_of p) ≡ entry image line room
       unfolding performed
       by_call p g =
           ap (λ (y : Effect Register). answered room y.answer y.after) (sym (step-settled r (call_of p) loaded_formed))
@@ -184,7 +201,7 @@ module _ (image line : List ℕ) (room : ℕ) (l : ReadImage) (found : (l.exact 
 
 -- ---- what a call comes to: its answer is a, and the register after it z
 
-module _ (room : ℕ) (r : Register) (c : Call) (a : Answer) (z : Register) (formed : T (well_formed r)) (f : record { answer = outcome_of a; after = z } ≡ settled r c) where
+module _ (room : ℕ) (r : Register) (c : Call) (a : Result ℕ Refusal) (z : Register) (formed : T (well_formed r)) (f : record { answer = outcome_of a; after = z } ≡ settled r c) where
   pub after_formed : T (well_formed z)
   after_formed =
       let e : record { answer = outcome_of a; after = z } ≡ step r c = f ∙ sym (step-settled r c formed) in
@@ -194,8 +211,8 @@ module _ (room : ℕ) (r : Register) (c : Call) (a : Answer) (z : Register) (for
   unfolding performed
   by_effect = ap (λ (y : Effect Register). answered room y.answer y.after) f
 
-  pub by_value : (v : ℕ) → a ≡ Value v → fitted room v (encode z) ≡ performed room r c
-  by_value v e = ap (λ (x : Answer). answered room (outcome_of x) z) (sym e) ∙ by_effect
+  pub by_value : (v : ℕ) → a ≡ Ok v → fitted room v (encode z) ≡ performed room r c
+  by_value v e = ap (λ (x : Result ℕ Refusal). answered room (outcome_of x) z) (sym e) ∙ by_effect
 
-  pub by_refusal : (why : Refusal) → a ≡ Refused why → declined (refusal_number why) ≡ performed room r c
-  by_refusal why e = ap (λ (x : Answer). answered room (outcome_of x) z) (sym e) ∙ by_effect
+  pub by_refusal : (why : Refusal) → a ≡ Err why → declined (refusal_number why) ≡ performed room r c
+  by_refusal why e = ap (λ (x : Result ℕ Refusal). answered room (outcome_of x) z) (sym e) ∙ by_effect

@@ -26,7 +26,7 @@ first_all (x ∷ s) = ap (λ (l : List ℕ). x ∷ l) (first_all s)
 
 -- ---- numbers and maps
 
-from_high : (s : List ℕ) (a : ℕ) → Bytes s → number_from a s / 256 ^ length s ≡ a
+pub from_high : (s : List ℕ) (a : ℕ) → Bytes s → number_from a s / 256 ^ length s ≡ a
 from_high [] a h = omega arith
 from_high (x ∷ s) a h =
     let b : x < 256 = h 0 in

@@ -69,10 +69,10 @@ pub is_set_le : (v : ℕ) → is_set v ≤ 1
 is_set_le zero = omega arith
 is_set_le (suc v) = omega arith
 
-bit_here : (v m : ℕ) → (is_set v + 2 * m) % 2 ≡ is_set v
+pub bit_here : (v m : ℕ) → (is_set v + 2 * m) % 2 ≡ is_set v
 bit_here v m = omega (arith, is_set_le v)
 
-bits-after : (v m : ℕ) → (is_set v + 2 * m) / 2 ≡ m
+pub bits-after : (v m : ℕ) → (is_set v + 2 * m) / 2 ≡ m
 bits-after v m = omega (arith, is_set_le v)
 
 pub present_back : (cs : List Coding) (vs rest : List ℕ) → Pairs Fitting cs vs

@@ -2,8 +2,9 @@
 pub mod Numbers
 pub mod Parts
 pub mod Writing
-pub mod Putting
 pub mod Fields
 pub mod Codes
+pub mod Putting
 pub mod Reading
 pub mod ExactFields
+pub mod Window

@@ -42,6 +42,8 @@ mask_map (suc k) n h =
     let e = mask_map k (n / 256) (let p : n < 256 ^ k * 256 = rw pow-suc at h in omega arith) in
     omega arith
 
+pub ruleset lengths = (length-bytes, length-map)
+
 -- ---- at the front of what follows
 
 pub first_append : (xs ys : List ℕ) → first_bytes (length xs) (xs ++ ys) ≡ xs

@@ -2,17 +2,17 @@
 use mathlib.Core.Path.{◌≡◌, refl, sym, ap, ◌∙◌}
 use mathlib.Core.List.{List, [], ◌∷◌, ◌++◌, append-nil}
 use Prim.Native.Nat.{ℕ, zero, suc, ◌+◌, ◌-◌, ◌*◌, ◌/◌, ◌%◌, ◌^◌, ◌≤◌, ◌<◌}
-use native.Mathlib.Nat.{pow-suc, pow-le-pow_right, sub-zero, zero-add, add-zero}
-use native.Mathlib.Numerals.{add-one}
+use native.Mathlib.Nat.{pow-suc, pow-le-pow_right, zero-add, not-suc-le-zero, le_of_suc-le-suc}
+use native.Mathlib.Numerals.{add-one, sub-one}
 use native.Mathlib.Omega.{arith}
-use lib.ListN.{length, take, drop, get_or, set, replicate, length-append}
-use lib.Seq.{take-suc-set, drop-set-lt, append_snoc, drop-drop, take_all}
+use lib.ListN.{length, take, drop, get_or, set, replicate, length-append, length-drop}
+use lib.Seq.{drop-cons, take-suc-set, drop-set-lt, append_snoc, drop-drop, take_all}
 use lib.Arith.{digits_lt}
 use lib.Dec.{lit<}
 use borrow.Rule.Slice.PartMut.{put_mid}
 use Rattle.buffers.proofs.Parts.{placed, placed_append, placed_set, tail_back}
 use Rattle.buffers.proofs.Digits.{Digits}
-use Rattle.masks.specs.Bytes.{bytes_of, number_from, number_of, map_bytes, mask_of, first_bytes, front}
+use Rattle.masks.specs.Bytes.{bytes_of, number_from, map_bytes, mask_of, first_bytes, front}
 
 -- ---- writing a number
 
@@ -31,49 +31,6 @@ byte_fits i x b hi hx hb =
     let p : 256 ^ (i + 1) ≤ 256 ^ 8 = pow-le-pow_right (lit< tt) h in
     omega (arith, byte_step i x b hx hb)
 
--- ---- reading with 0 past the end
-
-pub first_step : (k p : ℕ) (s : List ℕ) → first_bytes (suc k) (drop p s) ≡ get_or s p 0 ∷ first_bytes k (drop (p + 1) s)
-first_step k zero [] = refl
-first_step k zero (b ∷ s) = refl
-first_step k (suc p) [] = rw add-one refl
-first_step k (suc p) (b ∷ s) = first_step k p s ∙ rw (add-one, add-one)
-
-first_turn : (s : List ℕ) (at k i x : ℕ) → i < k
-    → number_from x (first_bytes (k - i) (drop (at + i) s)) ≡ number_from (x * 256 + get_or s (at + i) 0) (first_bytes (k - (i + 1)) (drop (at + (i + 1)) s))
-first_turn s at k i x h =
-    let e : k - i ≡ suc (k - (i + 1)) = omega arith in
-    let a : at + i + 1 ≡ at + (i + 1) = omega arith in
-    ap (λ (j : ℕ). number_from x (first_bytes j (drop (at + i) s))) e
-    ∙ ap (number_from x) (first_step (k - (i + 1)) (at + i) s)
-    ∙ ap (λ (j : ℕ). number_from (x * 256 + get_or s (at + i) 0) (first_bytes (k - (i + 1)) (drop j s))) a
-
--- x is the number in the first i of the k bytes from `at` on, and what is left gives the whole
-pub record NumberTo (s : List ℕ) (at k x i : ℕ) : Type 0 where
-  pub few : i ≤ k
-  pub small : x < 256 ^ i
-  pub left : number_from x (first_bytes (k - i) (drop (at + i) s)) ≡ number_of (first_bytes k (drop at s))
-
-pub number_none : (s : List ℕ) (at k : ℕ) → NumberTo s at k 0 0
-number_none s at k = record { few = omega arith; small = omega arith; left = rw (sub-zero, add-zero) }
-
-pub number_fits : (s : List ℕ) (at k x i b : ℕ) → NumberTo s at k x i → i < k → k ≤ 8 → b < 256 → x * 256 + b < 2 ^ 64
-number_fits s at k x i b h l w f = byte_fits i x b (omega arith) h.small f
-
-pub number_shifts : (s : List ℕ) (at k x i : ℕ) → NumberTo s at k x i → i < k → k ≤ 8 → x * 256 < 2 ^ 64
-number_shifts s at k x i h l w = omega (arith, number_fits s at k x i 0 h l w (lit< tt))
-
-pub number_more : (s : List ℕ) (at k x i b : ℕ) → NumberTo s at k x i → i < k → b ≡ get_or s (at + i) 0 → b < 256 → NumberTo s at k (x * 256 + b) (i + 1)
-number_more s at k x i b h l e f =
-    record {
-      few = omega arith;
-      small = byte_step i x b h.small f;
-      left = rw e (sym (first_turn s at k i x l) ∙ h.left);
-    }
-
-pub number_all : (s : List ℕ) (at k x i : ℕ) → NumberTo s at k x i → k ≤ i → x ≡ number_of (first_bytes k (drop at s))
-number_all s at k x i h l = let e : k - i ≡ 0 = omega arith in rw e at h.left
-
 -- ---- an array that is filled from its front
 
 pub fill_step : {A : Type 0} (f : List A) (i : ℕ) (v : A) (rest : List A) → i < length f → take (i + 1) (set f i v) ++ rest ≡ take i f ++ (v ∷ rest)
@@ -89,6 +46,54 @@ rest_step {A} f i k v d e h =
     let one : drop (i + 1) f ≡ drop 1 (drop i f) = sym (drop-drop 1 i f) in
     drop-set-lt (i + 1) f i v (omega arith) ∙ one ∙ ap (drop 1) (e ∙ ap (λ (j : ℕ). replicate j d) n)
 
+-- ---- reading with 0 past the end
+
+pub first_step : (k p : ℕ) (s : List ℕ) → first_bytes (suc k) (drop p s) ≡ get_or s p 0 ∷ first_bytes k (drop (p + 1) s)
+first_step k zero [] = refl
+first_step k zero (b ∷ s) = refl
+first_step k (suc p) [] = rw add-one refl
+first_step k (suc p) (b ∷ s) = first_step k p s ∙ rw (add-one, add-one)
+
+-- a turn of the loop that copies k bytes
+pub first_turn : (s f : List ℕ) (at k i v : ℕ) (whole : List ℕ) → i < k → i < length f → v ≡ get_or s (at + i) 0
+    → take i f ++ first_bytes (k - i) (drop (at + i) s) ≡ whole
+    → take (i + 1) (set f i v) ++ first_bytes (k - (i + 1)) (drop (at + (i + 1)) s) ≡ whole
+first_turn s f at k i v whole hk hf ev h =
+    let e : k - i ≡ suc (k - (i + 1)) = omega arith in
+    let a : at + i + 1 ≡ at + (i + 1) = omega arith in
+    let split : first_bytes (k - i) (drop (at + i) s) ≡ v ∷ first_bytes (k - (i + 1)) (drop (at + (i + 1)) s) =
+    ap (λ (j : ℕ). first_bytes j (drop (at + i) s)) e
+    ∙ first_step (k - (i + 1)) (at + i) s
+    ∙ rw (ev, a) in
+    fill_step f i v (first_bytes (k - (i + 1)) (drop (at + (i + 1)) s)) hf ∙ (rw split at h)
+
+-- fewer of them
+pub first_fewer : (k n : ℕ) (s : List ℕ) → k ≤ n → take k (first_bytes n s) ≡ first_bytes k s
+first_fewer zero n s h = refl
+first_fewer (suc k) zero s h = absurd (not-suc-le-zero h)
+first_fewer (suc k) (suc n) [] h = ap (λ (l : List ℕ). 0 ∷ l) (first_fewer k n [] (le_of_suc-le-suc h))
+first_fewer (suc k) (suc n) (b ∷ s) h = ap (λ (l : List ℕ). b ∷ l) (first_fewer k n s (le_of_suc-le-suc h))
+
+-- all of which are there
+pub first_there : (k : ℕ) (s : List ℕ) → k ≤ length s → take k s ≡ first_bytes k s
+first_there zero s h = refl
+first_there (suc k) [] h = absurd (not-suc-le-zero h)
+first_there (suc k) (b ∷ s) h = ap (λ (l : List ℕ). b ∷ l) (first_there k s (le_of_suc-le-suc h))
+
+pub part_there : (s : List ℕ) (at k : ℕ) → at + k ≤ length s → take (at + k - at) (drop at s) ≡ first_bytes k (drop at s)
+part_there s at k h =
+    let e : at + k - at ≡ k = omega arith in
+    let room : k ≤ length (drop at s) = rw length-drop (omega arith) in
+    rw e (first_there k (drop at s) room)
+
+-- a turn of the loop that reads a number, and of the one that reads a mask
+pub number_turn : (s : List ℕ) (i x : ℕ) → i < length s → number_from x (drop i s) ≡ number_from (x * 256 + get_or s i 0) (drop (i + 1) s)
+number_turn s i x h = rw (add-one, drop-cons s i 0)
+
+pub mask_turn : (s : List ℕ) (i : ℕ) → 0 < i → i ≤ length s → mask_of (drop (i - 1) s) ≡ mask_of (drop i s) * 256 + get_or s (i - 1) 0
+mask_turn s zero h hi = absurd (not-suc-le-zero h)
+mask_turn s (suc m) h hi = rw sub-one (ap mask_of (drop-cons s m 0 hi))
+
 -- ---- maps, byte by byte
 
 -- a turn of the loop that writes a map
@@ -97,16 +102,6 @@ pub map_turn : (i k x : ℕ) (s : List ℕ) → i < k → i < length s
 map_turn i k x s hk hs =
     let e : k - i ≡ suc (k - (i + 1)) = omega arith in
     placed_set i (x % 256) (map_bytes (k - (i + 1)) (x / 256)) s hs ∙ ap (λ (j : ℕ). placed i (map_bytes j x) s) (sym e)
-
--- a turn of the loop that reads one
-pub mask_turn : (s : List ℕ) (at k i : ℕ) → 0 < i → i ≤ k
-    → mask_of (first_bytes (k - (i - 1)) (drop (at + (i - 1)) s)) ≡ mask_of (first_bytes (k - i) (drop (at + i) s)) * 256 + get_or s (at + (i - 1)) 0
-mask_turn s at k i h hk =
-    let e : k - (i - 1) ≡ suc (k - i) = omega arith in
-    let a : at + (i - 1) + 1 ≡ at + i = omega arith in
-    ap (λ (j : ℕ). mask_of (first_bytes j (drop (at + (i - 1)) s))) e
-    ∙ ap mask_of (first_step (k - i) (at + (i - 1)) s)
-    ∙ ap (λ (p : ℕ). mask_of (first_bytes (k - i) (drop p s)) * 256 + get_or s (at + (i - 1)) 0) a
 
 -- xs at the front, and then ys after it
 two_parts : (xs ys s t last : List ℕ) (at : ℕ) → at ≡ length xs → length xs ≤ length s → t ≡ front xs s

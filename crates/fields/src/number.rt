@@ -1,7 +1,7 @@
 // Numbers and maps as bytes, written at the front of a part and read from any place.
-ghost use Rattle.std.specs.Prelude.{◌≡◌, ◌+◌, ◌<◌, ◌≤◌, length, drop, get_or};
+ghost use Rattle.std.specs.Prelude.{◌≡◌, ◌+◌, ◌<◌, ◌≤◌, length, take, drop, get_or};
 ghost use Rattle.masks.specs.Bytes.{bytes_of, number_of, map_bytes, mask_of, first_bytes, front};
-ghost use Rattle.fields.specs.Codes.{Bytes};
+ghost use Rattle.std.specs.Fn.{FnReturnsAt};
 
 // Writes n as k bytes, high byte first, at the front of s.
 #[tactic(auto, using(buffers::proofs::Digits::DigitsFrom, buffers::proofs::Digits::digits_start, buffers::proofs::Digits::digits_step, buffers::proofs::Digits::digits_done, crate::proofs::Parts::byte_digits))]
@@ -9,110 +9,113 @@ pub fn put(s: &mut [u8], k: usize, n: u64)
     requires { k ≤ length s.old }
     ensures { s.new ≡ front (bytes_of k n) s.old }
 {
-    let mut i = k;
     let mut x = n;
-    while 0 < i {
-        i = i - 1;
+    for i in (0..k).rev() {
         s[i] = (x % 256) as u8;
-        x = x / 256;
+        x /= 256;
     }
 }
 
 // Writes a mask as a map of k bytes at the front of s.
+// No plainer as one function with `put`: it would be told the order of the bytes, for a loop of two lines.
 #[tactic(auto, using(buffers::proofs::Parts::placed, buffers::proofs::Parts::placed_nil, crate::proofs::Parts::map_turn))]
 pub fn put_map(s: &mut [u8], k: usize, n: u64)
     requires { k ≤ length s.old }
     ensures { s.new ≡ front (map_bytes k n) s.old }
 {
-    let mut i = 0;
     let mut x = n;
-    while i < k {
+    for i in 0..k {
         s[i] = (x % 256) as u8;
-        x = x / 256;
-        i += 1;
+        x /= 256;
     }
-}
-
-// The byte at i.
-fn byte_in(s: &[u8], i: usize) -> u64
-    requires { i < length s.now }
-    ensures { (result ≡ get_or s.now i 0) × (result < 256) }
-{
-    s[i] as u64
 }
 
 // The byte at i, or 0 past the end.
 pub fn byte_at(s: &[u8], i: usize) -> u64
     ensures { (result ≡ get_or s.now i 0) × (result < 256) }
 {
-    if i < s.len() { byte_in(s, i) } else { 0 }
+    if i < s.len() { u64::from(s[i]) } else { 0 }
 }
 
-// The number in the k bytes from `at` on, high byte first, all of which are there.
-#[tactic(auto, using(crate::proofs::Parts::NumberTo, crate::proofs::Parts::number_none, crate::proofs::Parts::number_fits, crate::proofs::Parts::number_shifts, crate::proofs::Parts::number_more, crate::proofs::Parts::number_all))]
-fn get_within(s: &[u8], at: usize, k: usize) -> u64
-    requires { (at + k ≤ length s.now) × (at < 65536) × (k ≤ 8) }
-    ensures { result ≡ number_of (first_bytes k (drop at s.now)) }
+// The number with the bytes s, high byte first.
+#[tactic(auto, using(crate::proofs::Parts::byte_step, crate::proofs::Parts::byte_fits, crate::proofs::Parts::number_turn))]
+#[inline(always)]
+fn number_of(s: &[u8]) -> u64
+    requires { length s.now ≤ 8 }
+    ensures { result ≡ number_of s.now }
 {
-    let mut x: u64 = 0;
-    let mut i = 0;
-    while i < k {
-        x = x * 256 + byte_in(s, at + i);
-        i += 1;
+    let mut x = 0;
+    for byte in s {
+        x = x * 256 + u64::from(*byte);
     }
     x
 }
 
-// The same, where bytes past the end are 0.
-#[tactic(auto, using(crate::proofs::Parts::NumberTo, crate::proofs::Parts::number_none, crate::proofs::Parts::number_fits, crate::proofs::Parts::number_shifts, crate::proofs::Parts::number_more, crate::proofs::Parts::number_all))]
-fn get_past(s: &[u8], at: usize, k: usize) -> u64
-    requires { (at < 65536) × (k ≤ 8) }
-    ensures { result ≡ number_of (first_bytes k (drop at s.now)) }
+// The mask of a map with the bytes s, low byte first.
+#[tactic(auto, using(crate::proofs::Parts::byte_step, crate::proofs::Parts::byte_fits, crate::proofs::Parts::mask_turn))]
+fn mask_of(s: &[u8]) -> u64
+    requires { length s.now ≤ 8 }
+    ensures { result ≡ mask_of s.now }
 {
-    let mut x: u64 = 0;
-    let mut i = 0;
-    while i < k {
-        x = x * 256 + byte_at(s, at + i);
-        i += 1;
+    let mut x = 0;
+    for i in (0..s.len()).rev() {
+        x = x * 256 + u64::from(s[i]);
     }
     x
 }
 
-// The number in the k bytes from `at` on. Bytes past the end are 0; of an image there are none, so the end is asked for once.
+// The 8 bytes from `at` on, 0 for each past the end.
+#[tactic(auto, using(crate::proofs::Parts::first_turn, crate::proofs::Parts::fill_done))]
+fn padded(s: &[u8], at: usize) -> [u8; 8]
+    requires { at < 65536 }
+    ensures { result ≡ first_bytes 8 (drop at s.now) }
+{
+    let mut bytes = [0; 8];
+    for i in 0..8 {
+        bytes[i] = byte_at(s, at + i) as u8;
+    }
+    bytes
+}
+
+// What `read` makes of the k bytes from `at` on, 0 for each past the end. The bounds on `at` and k stand as clauses here and where they
+// are asked for: a cursor that kept them would be made anew for each field.
+#[cold]
+#[inline(never)]
+fn read_past<F: Fn(&[u8]) -> u64>(s: &[u8], at: usize, k: usize, read: F) -> u64
+    requires here { (at < 65536) × (k ≤ 8) }
+    requires reads { (part : _) → length part.now ≤ 8 → F.pre read part }
+    ensures { FnReturnsAt F.Fn read (first_bytes k (drop at s.now)) result }
+{
+    read(&padded(s, at)[..k])
+}
+
+// The number in the k bytes from `at` on. Bytes past the end are 0; where 8 are there, they are read at once.
+#[tactic(auto, using(crate::proofs::Window::number_window))]
+#[inline(always)]
 pub fn get_at(s: &[u8], at: usize, k: usize) -> u64
     requires { (at < 65536) × (k ≤ 8) }
     ensures { result ≡ number_of (first_bytes k (drop at s.now)) }
 {
-    if at + k <= s.len() {
-        get_within(s, at, k)
+    if k == 0 {
+        return 0;
+    }
+    if at + 8 <= s.len() {
+        number_of(&s[at..at + 8]) >> (64 - 8 * k)
     } else {
-        get_past(s, at, k)
+        read_past(s, at, k, number_of)
     }
 }
 
-// The mask of the map of k bytes from `at` on. Bytes past the end are 0.
-#[tactic(auto, using(crate::proofs::Parts::byte_step, crate::proofs::Parts::byte_fits, crate::proofs::Parts::mask_turn))]
+// The mask of the map of k bytes from `at` on. Bytes past the end are 0; of an image there are none, so the end is asked for once.
+#[tactic(auto, using(crate::proofs::Parts::part_there))]
+#[inline(always)]
 pub fn get_map(s: &[u8], at: usize, k: usize) -> u64
     requires { (at < 65536) × (k ≤ 8) }
     ensures { result ≡ mask_of (first_bytes k (drop at s.now)) }
 {
-    let mut x: u64 = 0;
-    let mut i = k;
-    while 0 < i {
-        i = i - 1;
-        x = x * 256 + byte_at(s, at + i);
+    if at + k <= s.len() {
+        mask_of(&s[at..at + k])
+    } else {
+        read_past(s, at, k, mask_of)
     }
-    x
-}
-
-// The length of s, all of whose items are bytes.
-pub fn byte_count(s: &[u8]) -> usize
-    ensures { (result ≡ length s.now) × Bytes s.now }
-{
-    let n = s.len();
-    if n == 0 {
-        return 0;
-    }
-    let _first = s[0];
-    n
 }

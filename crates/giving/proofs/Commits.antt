@@ -20,6 +20,7 @@ use Rattle.model.proofs.RuleFacts.{origin←}
 use Rattle.slots.specs.Slots.{Places, look, lifted, on_capability}
 use Rattle.slots.specs.Terms.{OriginPlaced, origin_terms}
 use Rattle.slots.proofs.SlotLaws.{capability_commit}
+use Rattle.origins.specs.declared.authority.RoleColumns.{RoleColumns}
 use Rattle.origins.specs.Authority.{authority_in, Columns}
 use Rattle.origins.proofs.Laws.{in_range_lem, authority_read, placed_terms}
 use Rattle.giving.specs.Giving.{hand_decision, allow_decision, lend_decision}
@@ -41,7 +42,7 @@ origin_in_range r n k l = cases (decided (ltb n r.count))
     cases (inl t) = ((formed→ r k).capabilities n (ltb→lt _ _ t)).ranges.origin
     cases (inr t) = subst (λ (c : Capability). OriginInRange c.origin) (sym ((formed→ r k).capabilities_blank n (nltb→le _ _ t) l)) (lit< tt)
 
-module _ (r : Register) (p : Places) (columns : List ℕ) (user n mask : ℕ) (keeps : T (well_formed r)) (column : Columns columns r.roles) (e : p.capability ≡ n % 256) (placed : OriginPlaced p (origin_at r.capabilities (n % 256))) where
+module _ (r : Register) (p : Places) (columns : RoleColumns) (user n mask : ℕ) (keeps : T (well_formed r)) (column : Columns columns r.roles) (e : p.capability ≡ n % 256) (placed : OriginPlaced p (origin_at r.capabilities (n % 256))) where
   -- the terms and the authority that are read are those of the register
   give_commit : (q : Capability → Terms → (Capability → ℕ) → Ruling Capability)
       → (let ts : List Bool = is_user user ∷ is_capability n ∷ bits 32 mask ∷ [] in

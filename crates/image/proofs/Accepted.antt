@@ -1,12 +1,13 @@
--- What load accepts: the images of the registers that keep the rules, and the empty image. `image-laws` has all that holds of images.
+-- What load accepts: the images of the registers that keep the rules, and the empty image. `image_laws` has all that holds of images.
 use mathlib.Core.Path.{◌≡◌, refl, sym, ap, subst, ◌∙◌}
 use mathlib.Core.Logic.{◌⊎◌, inl, inr, ◌≢◌}
 use mathlib.Core.List.{List, [], ◌∷◌, cons≢nil}
 use Prim.Native.Nat.{ℕ, zero, suc, ◌-◌, ◌*◌, ◌/◌, ◌%◌, ◌≤◌, ◌<◌}
-use native.Mathlib.Nat.{add-zero, sub-zero, zero-sub, suc-sub-suc}
+use native.Mathlib.Nat.{add-zero}
 use native.Mathlib.Omega.{arith}
 use lib.Dec.{T, eqb, ltb, lt→ltb}
 use lib.ListN.{length, drop, get_or, replicate, length-replicate}
+use Rattle.std.proofs.lemmas.List.{drop-replicate}
 use Rattle.buffers.proofs.Comparing.{same_eq}
 use Rattle.masks.specs.Masks.{has}
 use Rattle.masks.specs.Bytes.{number_of, map_bytes, mask_of, first_bytes, same_bytes}
@@ -23,7 +24,8 @@ use Rattle.model.proofs.EmptyImage.{empty_image}
 use Rattle.image.specs.Laws.{ImageOf, ImageLaws}
 use Rattle.fields.proofs.Numbers.{map_item, same_refl}
 use Rattle.encoding.proofs.Lengths.{image_small}
-use Rattle.decoding.proofs.Decoding.{read_domain, same_register}
+use Rattle.decoding.specs.Exact.{read_domain}
+use Rattle.decoding.proofs.Decoding.{same_register}
 use Rattle.image.proofs.RoundTrip.{decode_parts, back, image-length}
 
 -- ---- what is accepted
@@ -79,11 +81,6 @@ either_fresh s (inr e) =
 abbrev zeros : ℕ → List ℕ
 zeros n = replicate n 0
 
-drop_zeros : (k n : ℕ) → drop k (zeros n) ≡ zeros (n - k)
-drop_zeros zero n = ap zeros (sym (sub-zero n))
-drop_zeros (suc k) zero = ap zeros (sym (zero-sub (suc k)))
-drop_zeros (suc k) (suc n) = drop_zeros k n ∙ ap zeros (sym (suc-sub-suc n k))
-
 first_zeros : (w n : ℕ) → first_bytes w (zeros n) ≡ zeros w
 first_zeros zero n = refl
 first_zeros (suc w) zero = ap (λ (l : List ℕ). 0 ∷ l) (first_zeros w 0)
@@ -91,7 +88,7 @@ first_zeros (suc w) (suc n) = ap (λ (l : List ℕ). 0 ∷ l) (first_zeros w n)
 
 -- a map of them chooses nothing
 after_zeros : (w n v k : ℕ) → chosen_length v (mask_of (zeros w)) k ≡ 0 → after_chosen w v k (zeros n) ≡ zeros (n - w)
-after_zeros w n v k e = rw (first_zeros w n, e, add-zero) (drop_zeros w n)
+after_zeros w n v k e = rw (first_zeros w n, e, add-zero) (drop-replicate w n 0)
 
 -- any number of them is read as the fresh register, whether it is accepted or not
 zeros_read : (n : ℕ) → decode (zeros n) ≡ fresh
@@ -101,7 +98,7 @@ zeros_read n =
     let d : ℕ = b - 4 in
     let e : ℕ = d - 2 in
     decode_parts (zeros n) (zeros a) (zeros b) (zeros d) (zeros e) 0 0
-    (drop_zeros 4 n) (after_zeros 8 a 1 64 refl) (after_zeros 4 b 20 32 refl) (ap number_of (first_zeros 2 d)) refl (drop_zeros 2 d)
+    (drop-replicate 4 n 0) (after_zeros 8 a 1 64 refl) (after_zeros 4 b 20 32 refl) (ap number_of (first_zeros 2 d)) refl (drop-replicate 2 d 0)
     ∙ same_register
     (ap number_of (first_zeros 4 n))
     (ap mask_of (first_zeros 8 a))

@@ -17,13 +17,12 @@ use Rattle.model.specs.Fields.{bit, role_of, write_role, read_role, session_of, 
 use Rattle.model.specs.Image.{mask_where, chosen, write_chosen, item_or, read_chosen, chosen_length, founded_roles, active_sessions}
 use Rattle.fields.specs.Codes.{Bytes}
 use Rattle.records.specs.Exact.{exact_session}
-use Rattle.decoding.specs.Exact.{exact_sessions}
+use Rattle.decoding.specs.Exact.{read_domain, exact_sessions}
 use Rattle.fields.proofs.Reading.{bytes_drop}
 use Rattle.fields.proofs.ExactFields.{first_join, number_again}
 use Rattle.records.proofs.Records.{session_size}
 use Rattle.records.proofs.ExactRecords.{role_again, session_again}
 use Rattle.records.proofs.ExactWriting.{session_exact}
-use Rattle.decoding.proofs.Decoding.{read_domain}
 use Rattle.encoding.proofs.Lengths.{item-length}
 
 -- ---- a section read and written again

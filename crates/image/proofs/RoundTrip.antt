@@ -21,7 +21,8 @@ use Rattle.model.proofs.Rules.{formed→}
 use Rattle.fields.proofs.Numbers.{length-bytes, length-map, number_back}
 use Rattle.records.proofs.Records.{domain_good, role_good, role_size, session_good, session_size, AllInRange, in_range_lem, capabilities_back, capabilities_after}
 use Rattle.encoding.proofs.Turns.{where_small}
-use Rattle.decoding.proofs.Decoding.{read_domain, register_of, same_register}
+use Rattle.decoding.specs.Exact.{read_domain}
+use Rattle.decoding.proofs.Decoding.{register_of, same_register}
 use Rattle.image.proofs.Sections.{Kept, kept, Section, section_back, has_where}
 
 -- ---- the sections of an image, each with all that follows it

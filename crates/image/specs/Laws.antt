@@ -1,4 +1,4 @@
--- What holds of images. `proofs/Accepted.antt` proves it: `image-laws`.
+-- What holds of images. `proofs/Accepted.antt` proves it: `image_laws`.
 use Rattle.std.specs.Prelude.{◌≡◌, ◌⊎◌, ◌↔◌, ◌≢◌, List, [], ℕ, ◌*◌, ◌/◌, ◌%◌, ◌≤◌, ◌<◌, T, length, get_or, replicate}
 use Rattle.masks.specs.Masks.{has}
 use Rattle.masks.specs.Bytes.{map_bytes}
@@ -17,11 +17,11 @@ pub record ImageLaws : Type 0 where
   pub round_trip : (r : Register) → T (well_formed r) → decode (encode r) ≡ r
   -- two registers that keep the shelf rules and have one image are one
   pub injective : (q r : Register) → T (well_formed q) → T (well_formed r) → encode q ≡ encode r → q ≡ r
-  -- what is accepted (§8.5.1): the empty image, the images of the registers that keep the rules, all of them, and nothing else
+  -- what is accepted: the empty image, the images of the registers that keep the rules, all of them, and nothing else
   pub accepted : (s : List ℕ) → T (loads s) ↔ ((s ≡ []) ⊎ ((r : Register) × ImageOf s r))
   -- the register loaded is the one whose image it is
   pub loaded : (s : List ℕ) (r : Register) → T (loads s) → ImageOf s r → decode s ≡ r
-  -- an accepted image is what its register saves if and only if it has a byte (§8.6.2)
+  -- an accepted image is what its register saves if and only if it has a byte
   pub saved_again : (s : List ℕ) → T (loads s) → (encode (decode s) ≡ s) ↔ (s ≢ [])
   -- so exactly one accepted image is not what its register saves
   pub one_unsaved : (s : List ℕ) → (T (loads s) × (encode (decode s) ≢ s)) ↔ (s ≡ [])
@@ -29,7 +29,7 @@ pub record ImageLaws : Type 0 where
   pub zero_bytes : (n : ℕ) → T (loads (replicate n 0)) ↔ ((n ≡ 0) ⊎ (n ≡ 26))
   -- these two, and no others, load as the fresh register
   pub loaded_fresh : (s : List ℕ) → (T (loads s) × (decode s ≡ fresh)) ↔ ((s ≡ []) ⊎ (s ≡ replicate 26 0))
-  -- a saved image has at least 26 bytes (§8.3.1), so 1 to 25 bytes are never accepted
+  -- a saved image has at least 26 bytes, so 1 to 25 bytes are never accepted
   pub least : (r : Register) → 26 ≤ length (encode r)
   pub accepted_least : (s : List ℕ) → T (loads s) → s ≢ [] → 26 ≤ length s
   -- and no area below that has room for one

@@ -2,14 +2,11 @@
 // instead. The input has room for one byte more than the limit, the output for the longest answers.
 #![tactic(auto)]
 
-use terminal::options::Wish;
-
 fn main(rt: HostRuntime) {
-    let wish = terminal::options::asked_for(&rt);
-    let Wish::Journal = wish else {
+    if let Some(wish) = terminal::options::asked_for(&rt) {
         terminal::inform(&rt, wish);
         return;
-    };
+    }
     let mut input = [0u8; 32769];
     let mut out = [0u8; 163840];
     terminal::play(&rt, &mut input, &mut out);

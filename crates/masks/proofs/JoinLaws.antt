@@ -103,8 +103,8 @@ joined_one f j n g =
       within_le (f j) (joined f (2 ^ j) n) (joined-has f (2 ^ j) n j g (subst T (sym (has_single j j)) (eqb_refl j))),
     )
 
--- by the machine's `1 << j`, in the column that begins at `from`
-pub column_single : (columns : List ℕ) (from m j : ℕ) → m ≡ 1 * 2 ^ (j % 32) % 2 ^ 32 → get_or columns (from + j % 32) 0 ≡ joined (λ k. get_or columns (from + k) 0) m 32
-column_single columns from m j e =
-    let f : ℕ → ℕ = λ k. get_or columns (from + k) 0 in
+-- by the machine's `1 << j`
+pub column_single : (column : List ℕ) (m j : ℕ) → m ≡ 1 * 2 ^ (j % 32) % 2 ^ 32 → get_or column (j % 32) 0 ≡ joined (λ k. get_or column k 0) m 32
+column_single column m j e =
+    let f : ℕ → ℕ = λ k. get_or column k 0 in
     sym (ap (λ (x : ℕ). joined f x 32) (e ∙ one_shl 32 (j % 32) (omega arith)) ∙ joined_one f (j % 32) 32 (omega arith))

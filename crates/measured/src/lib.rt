@@ -6,7 +6,7 @@ ghost use Rattle.std.specs.Prelude.{◌≡◌};
 ghost use Rattle.measured.specs.Measured.{played_length, played_buffer};
 
 use image::load;
-use model::{Answer, fresh};
+use model::fresh;
 use player::journal;
 
 // Plays the lines on the register whose image is given and prints the answers into the output; it returns how many bytes they take.
@@ -15,12 +15,9 @@ use player::journal;
 pub fn measured_play(image: &[u8], lines: &[u8], out: &mut [u8]) -> usize
     ensures { (result ≡ played_length image.now lines.now out.old) × (out.new ≡ played_buffer image.now lines.now out.old) }
 {
-    let none = fresh();
-    let loaded = load(none, image);
-    let answer = loaded.answer;
-    let Answer::Value(_) = answer else {
+    let loaded = load(fresh(), image);
+    let Ok(_) = loaded.answer else {
         return 0;
     };
-    let register = loaded.register;
-    journal(register, lines, out)
+    journal(loaded.register, lines, out)
 }

@@ -1,13 +1,11 @@
 -- What the program's requests and answers mean: "a definition gives this paper's number and values for each case of that
 -- enum. The promises use that definition."
 use Rattle.std.proofs.Math.Option.{Option, none, some}
-use Rattle.std.specs.Prelude.{ℕ}
+use Rattle.std.specs.Prelude.{ℕ, Option as Maybe, Some, None, Result, Ok, Err}
 use Rattle.model.specs.declared.Origin.{Origin}
 use Rattle.model.specs.declared.Origin.TheVariants.{Role as ofRole, Capability as ofCapability}
 use Rattle.model.specs.declared.Refusal.{Refusal}
 use Rattle.model.specs.declared.Refusal.TheVariants.{Malformed, Range, Missing, Unchanged, Domain, Forbidden, Revoked, Expired, Context, Exhausted, Exceeds, Full, Past, Image, Broken, Room}
-use Rattle.model.specs.declared.Answer.{Answer}
-use Rattle.model.specs.declared.Answer.TheVariants.{Value, Refused}
 use Rattle.model.specs.declared.Reply.{Reply}
 use Rattle.model.specs.declared.Register.{Register}
 use Rattle.model.specs.declared.Named.{Named}
@@ -20,8 +18,6 @@ use Rattle.model.specs.declared.LocalRequest.{LocalRequest}
 use Rattle.model.specs.declared.LocalRequest.TheVariants.{Enrol, Found, Grant, Appoint, Dismiss, Clock, Create, Allow, Lend, Hand, Open, Check, Close}
 use Rattle.model.specs.declared.TreeRequest.{TreeRequest}
 use Rattle.model.specs.declared.TreeRequest.TheVariants.{Withdraw, Amend, Revoke, Same}
-use Rattle.model.specs.declared.Parsed.{Parsed}
-use Rattle.model.specs.declared.Parsed.TheVariants.{Line, NoRequest}
 use Rattle.model.specs.Rulings.{Outcome, value, refused, Effect}
 use Rattle.model.specs.Revocation.{Change, raise, lower}
 use Rattle.model.specs.Calls.{Call, enrol, found, grant, withdraw, appoint, dismiss, clock, create, allow, lend, hand, opening, check, amend, revoke, close, same}
@@ -45,9 +41,9 @@ refusal_number Image = 14
 refusal_number Broken = 15
 refusal_number Room = 16
 
-abbrev pub outcome_of : Answer → Outcome
-outcome_of (Value v) = value v
-outcome_of (Refused why) = refused (refusal_number why)
+abbrev pub outcome_of : Result ℕ Refusal → Outcome
+outcome_of (Ok v) = value v
+outcome_of (Err why) = refused (refusal_number why)
 
 abbrev pub effect_of : Reply → Effect Register
 effect_of reply = record { answer = outcome_of reply.answer; after = reply.register }
@@ -85,6 +81,6 @@ abbrev pub call_of : Request → Call
 call_of (Local q) = local_call q
 call_of (Tree t) = tree_call t
 
-abbrev pub parsed_call : Parsed → Option Call
-parsed_call (Line request) = some (call_of request)
-parsed_call NoRequest = none
+abbrev pub parsed_call : Maybe Request → Option Call
+parsed_call (Some request) = some (call_of request)
+parsed_call None = none

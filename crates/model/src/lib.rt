@@ -1,18 +1,20 @@
-// The register by value and all that it holds, requests and answers. A capability is document 01's pass.
+// The register by value and all that it holds, requests and answers. Journals call a capability a pass.
 #![tactic(auto)]
 
 ghost use Rattle.std.specs.Prelude.{◌≡◌};
 ghost use Rattle.model.specs.State.{blank_role, blank_capability, blank_session, fresh as freshRegister};
 ghost use Rattle.model.specs.Requests.{refusal_number};
 
+pub mod formed;
+
 // What a capability is derived from, and what a session is opened on: a role or a capability, by number.
-#[derive(Clone, Copy)]
+#[derive(Clone, Copy, PartialEq, Eq)]
 pub enum Origin {
     Role(u8),
     Capability(u8),
 }
 
-#[derive(Clone, Copy)]
+#[derive(Clone, Copy, PartialEq, Eq)]
 pub struct Role {
     pub founded: bool,
     pub domain: u8,
@@ -23,7 +25,7 @@ pub struct Role {
     pub appointed: u64,
 }
 
-#[derive(Clone, Copy)]
+#[derive(Clone, Copy, PartialEq, Eq)]
 pub struct Capability {
     pub origin: Origin,
     pub creator: u8,
@@ -44,7 +46,7 @@ pub struct Capability {
     pub revoked: bool,
 }
 
-#[derive(Clone, Copy)]
+#[derive(Clone, Copy, PartialEq, Eq)]
 pub struct Session {
     pub active: bool,
     pub user: u8,
@@ -65,8 +67,8 @@ pub struct Register {
     pub sessions: [Session; 64],
 }
 
-// One case for each refusal; `refusal_number` gives the document's number.
-#[derive(Clone, Copy)]
+// Why a call is refused. `u32::from` gives the number.
+#[derive(Clone, Copy, PartialEq, Eq)]
 pub enum Refusal {
     Malformed,
     Range,
@@ -86,11 +88,8 @@ pub enum Refusal {
     Room,
 }
 
-#[derive(Clone, Copy)]
-pub enum Answer {
-    Value(u32),
-    Refused(Refusal),
-}
+// The value of a call that is accepted, or why it is refused.
+pub type Answer = Result<u32, Refusal>;
 
 #[derive(Clone, Copy)]
 pub struct Reply {
@@ -98,7 +97,8 @@ pub struct Reply {
     pub register: Register,
 }
 
-// A role or a capability as a request names it: any number that a line can hold.
+// A role or a capability as a request names it: any number that a line can hold. This is no instance of one type with `Origin`, which
+// holds numbers in range: definitions see both numbers as natural ones, and one type would let either stand for the other.
 #[derive(Clone, Copy)]
 pub enum Named {
     Role(u32),
@@ -131,7 +131,8 @@ pub struct Plan {
     pub devices: u32,
 }
 
-// A request that changes only elements that it names: journal words with their arguments, in the document's order.
+// A request that changes only elements that it names: journal words with their arguments, in the specification's order. The arguments
+// stand apart, since a struct for each word would be made once and taken apart once.
 #[derive(Clone, Copy)]
 pub enum LocalRequest {
     Enrol(u32, u32),
@@ -165,34 +166,29 @@ pub enum Request {
     Tree(TreeRequest),
 }
 
-// The parser's answer: a request, or none.
-#[derive(Clone, Copy)]
-pub enum Parsed {
-    Line(Request),
-    NoRequest,
-}
+// The number of a refusal, as answers print it.
+impl From<Refusal> for u32 {
+    ghost from_gives = { λ why n. n ≡ refusal_number why };
 
-// The document's number of a refusal.
-pub fn refusal_number(why: Refusal) -> u32
-    ensures { result ≡ refusal_number why }
-{
-    match why {
-        Refusal::Malformed => 1,
-        Refusal::Range => 2,
-        Refusal::Missing => 3,
-        Refusal::Unchanged => 4,
-        Refusal::Domain => 5,
-        Refusal::Forbidden => 6,
-        Refusal::Revoked => 7,
-        Refusal::Expired => 8,
-        Refusal::Context => 9,
-        Refusal::Exhausted => 10,
-        Refusal::Exceeds => 11,
-        Refusal::Full => 12,
-        Refusal::Past => 13,
-        Refusal::Image => 14,
-        Refusal::Broken => 15,
-        Refusal::Room => 16,
+    fn from(why: Refusal) -> u32 {
+        match why {
+            Refusal::Malformed => 1,
+            Refusal::Range => 2,
+            Refusal::Missing => 3,
+            Refusal::Unchanged => 4,
+            Refusal::Domain => 5,
+            Refusal::Forbidden => 6,
+            Refusal::Revoked => 7,
+            Refusal::Expired => 8,
+            Refusal::Context => 9,
+            Refusal::Exhausted => 10,
+            Refusal::Exceeds => 11,
+            Refusal::Full => 12,
+            Refusal::Past => 13,
+            Refusal::Image => 14,
+            Refusal::Broken => 15,
+            Refusal::Room => 16,
+        }
     }
 }
 

@@ -19,6 +19,7 @@ use Rattle.model.specs.State.{party, terms, authority, lent_authority, role_auth
 use Rattle.model.specs.Rules.{is_origin}
 use Rattle.model.specs.Requests.{named_origin}
 use Rattle.model.specs.Sweeps.{origin_revoked, origin_limit}
+use Rattle.origins.specs.declared.authority.RoleColumns.{RoleColumns}
 use Rattle.origins.specs.Authority.{item, Columns, role_item, joined_items, authority_in}
 use Rattle.origins.specs.Numbers.{role_held, capability_held, Placed, named_in}
 use Rattle.origins.specs.Terms.{party_in, slot_terms, column_terms, bare_in}
@@ -40,26 +41,26 @@ held_placed (ofCapability n) i j e f l = f ∙ sym (mod-eq_of_lt (subst (λ (m :
 -- ---- the columns
 
 -- the authority of a capability without lent roles
-pub authority_own : (columns : List ℕ) (c : Capability) → c.lent ≡ 0 → c.permissions ≡ authority_in columns c
+pub authority_own : (columns : RoleColumns) (c : Capability) → c.lent ≡ 0 → c.permissions ≡ authority_in columns c
 unfolding authority_in joined_items
 authority_own columns c e = rw (e, joined_none, or_zero_r)
 
-module _ (columns : List ℕ) (roles : List Role) (kept : Columns columns roles) where
-  pub role_granted : (k : ℕ) → k < 32 → role_item columns 0 k ≡ role_authority roles k
+module _ (columns : RoleColumns) (roles : List Role) (kept : Columns columns roles) where
+  pub role_granted : (k : ℕ) → k < 32 → role_item columns.grants k ≡ role_authority roles k
   unfolding role_item
   role_granted k l = rw (lt-ltb k 32 l) (kept.grants k l)
 
-  role_lends_lem : (k : ℕ) → k < 32 → role_item columns 32 k ≡ may_lend roles (2 ^ k)
+  role_lends_lem : (k : ℕ) → k < 32 → role_item columns.lends k ≡ may_lend roles (2 ^ k)
   unfolding role_item
   role_lends_lem k l = rw (lt-ltb k 32 l) (kept.lends k l ∙ sym (lend_one roles k l))
 
-  lends_read : (m : ℕ) → joined_items columns 32 m ≡ may_lend roles m
+  lends_read : (m : ℕ) → joined_items columns.lends m ≡ may_lend roles m
   unfolding joined_items may_lend
-  lends_read m = joined_same (item columns 32) (role_lends roles) m 32 kept.lends
+  lends_read m = joined_same (item columns.lends) (role_lends roles) m 32 kept.lends
 
   pub authority_read : (c : Capability) → authority_in columns c ≡ authority roles c
   unfolding authority_in joined_items authority lent_authority
-  authority_read c = ap (bit_or c.permissions) (joined_same (item columns 0) (role_authority roles) c.lent 32 kept.grants)
+  authority_read c = ap (bit_or c.permissions) (joined_same (item columns.grants) (role_authority roles) c.lent 32 kept.grants)
 
   -- the terms read from the places of an origin are its terms
   pub placed_terms : (cs : List Capability) (o : Origin) (i j : ℕ) → T (is_origin o) → Placed o i j

@@ -1,3 +1,2 @@
 -- What is read from elements is the register's.
-mod Filling
 pub mod Laws

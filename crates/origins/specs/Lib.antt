@@ -2,4 +2,5 @@
 -- What stands at an origin and what it allows, from the elements read.
 pub mod Authority
 pub mod Numbers
+pub mod Standing
 pub mod Terms

@@ -1,12 +1,13 @@
 -- Intermediate: the code's own terms, proved to come to the definitions of `model`.
 -- What stands at an origin and what it allows, from the elements read.
-use Rattle.std.specs.Prelude.{List, ℕ, ◌%◌}
+use Rattle.std.specs.Prelude.{ℕ, ◌%◌}
 use Rattle.model.specs.declared.Origin.{Origin}
 use Rattle.model.specs.declared.Origin.TheVariants.{Role as ofRole, Capability as ofCapability}
 use Rattle.model.specs.declared.Role.{Role}
 use Rattle.model.specs.declared.Capability.{Capability}
 use Rattle.model.specs.State.{blank_role, Party, the_role, the_capability, Terms, party_terms}
 use Rattle.origins.specs.Authority.{granted_by, lendable_by}
+use Rattle.origins.specs.declared.authority.RoleColumns.{RoleColumns}
 use Rattle.origins.specs.declared.terms.Allowance.{Allowance}
 
 -- the terms that the program's record stands for
@@ -36,7 +37,7 @@ unfoldable pub slot_terms : Origin → Role → Capability → (grants lendable 
 slot_terms o x c grants lendable = party_terms (λ k. grants) (λ d. grants) (λ m. lendable) (party_in o x c)
 
 -- the same by the columns of the roles
-abbrev pub column_terms : List ℕ → Origin → Role → Capability → Terms
+abbrev pub column_terms : RoleColumns → Origin → Role → Capability → Terms
 column_terms columns o x c = slot_terms o x c (granted_by columns o c) (lendable_by columns o c)
 
 -- the same as far as they need neither the role nor a column

@@ -6,7 +6,8 @@ ghost use Rattle.origins.specs.Numbers.{role_held, capability_held, named_in};
 
 use model::{Named, Origin};
 
-// The number of the role, or of the capability, that an element holds; 0 if it is the other.
+// The number of the role, or of the capability, that an element holds; 0 if it is the other. Two functions, since roles and
+// capabilities stand in two arrays, and a caller indexes one of them.
 pub fn role_held(o: Origin) -> u8
     ensures { result ≡ role_held o }
 {

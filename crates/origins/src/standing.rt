@@ -1,60 +1,68 @@
-// What is asked of an origin, a role x or a capability c alike.
+// What is asked of an origin, a role or a capability alike.
 ghost use Rattle.std.specs.Prelude.{◌≡◌};
-ghost use Rattle.model.specs.declared.Role.{Role as RoleHeld};
-ghost use Rattle.model.specs.declared.Capability.{Capability as CapabilityHeld};
 ghost use Rattle.model.specs.State.{there, has_member, lives, may_use, may_create};
-ghost use Rattle.origins.specs.Terms.{party_in};
+ghost use Rattle.origins.specs.Standing.{standing};
 
 use masks::member;
 use model::{Capability, Origin, Role};
 
-// A role is founded, a capability has been created.
-pub fn present_in(o: Origin, x: Role, count: u16) -> bool
-    ensures { (c : CapabilityHeld) → result ≡ there count (party_in o x c) }
-{
-    match o {
-        Origin::Role(k) => x.founded,
-        Origin::Capability(n) => (n as u16) < count,
-    }
+// An origin, and what was read for it: the role that it is, or the capability; the other is not looked at.
+#[derive(Clone, Copy)]
+pub struct Party<'a> {
+    pub origin: Origin,
+    pub role: &'a Role,
+    pub capability: &'a Capability,
 }
 
-// The user is appointed to the role, or holds the capability.
-pub fn member_in(o: Origin, x: Role, c: Capability, user: u32) -> bool
-    ensures { result ≡ has_member (party_in o x c) user }
-{
-    match o {
-        Origin::Role(k) => member(x.appointed, user),
-        Origin::Capability(n) => member(c.holders, user),
+impl<'a> Party<'a> {
+    // A role is founded, a capability has been created.
+    pub fn present(&self, count: u16) -> bool
+        ensures { result ≡ there count (standing self.now) }
+    {
+        match self.origin {
+            Origin::Role(_) => self.role.founded,
+            Origin::Capability(n) => u16::from(n) < count,
+        }
     }
-}
 
-// The tick is in the life: of a capability from its first tick on and before its last (§3.3.2), of a role always (§3.3.3).
-#[tactic(auto, using(masks::proofs::Truth::left_each))]
-pub fn alive_in(o: Origin, c: Capability, tick: u32) -> bool
-    ensures { (x : RoleHeld) → result ≡ lives (party_in o x c) tick }
-{
-    match o {
-        Origin::Role(k) => true,
-        Origin::Capability(n) => (c.first <= tick) & (tick < c.last),
+    // The user is appointed to the role, or holds the capability.
+    pub fn has_member(&self, user: u32) -> bool
+        ensures { result ≡ has_member (standing self.now) user }
+    {
+        match self.origin {
+            Origin::Role(_) => member(self.role.appointed, user),
+            Origin::Capability(_) => member(self.capability.holders, user),
+        }
     }
-}
 
-// Uses are below their limit; a role counts none.
-pub fn usable_in(o: Origin, c: Capability) -> bool
-    ensures { (x : RoleHeld) → result ≡ may_use (party_in o x c) }
-{
-    match o {
-        Origin::Role(k) => true,
-        Origin::Capability(n) => c.uses < c.use_limit,
+    // The tick is in the life: of a capability from its first tick on and before its last (§3.3.2), of a role always (§3.3.3).
+    #[tactic(auto, using(masks::proofs::Truth::left_each))]
+    pub fn lives(&self, tick: u32) -> bool
+        ensures { result ≡ lives (standing self.now) tick }
+    {
+        match self.origin {
+            Origin::Role(_) => true,
+            Origin::Capability(_) => self.capability.first <= tick && tick < self.capability.last,
+        }
     }
-}
 
-// Creations are below their limit; a role counts none.
-pub fn creates_in(o: Origin, c: Capability) -> bool
-    ensures { (x : RoleHeld) → result ≡ may_create (party_in o x c) }
-{
-    match o {
-        Origin::Role(k) => true,
-        Origin::Capability(n) => c.creations < c.creation_limit,
+    // Uses are below their limit; a role counts none. Two methods, here and below: one would be told which two fields to compare.
+    pub fn may_use(&self) -> bool
+        ensures { result ≡ may_use (standing self.now) }
+    {
+        match self.origin {
+            Origin::Role(_) => true,
+            Origin::Capability(_) => self.capability.uses < self.capability.use_limit,
+        }
+    }
+
+    // Creations are below their limit; a role counts none.
+    pub fn may_create(&self) -> bool
+        ensures { result ≡ may_create (standing self.now) }
+    {
+        match self.origin {
+            Origin::Role(_) => true,
+            Origin::Capability(_) => self.capability.creations < self.capability.creation_limit,
+        }
     }
 }

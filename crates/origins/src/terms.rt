@@ -3,9 +3,10 @@ ghost use Rattle.std.specs.Prelude.{◌≡◌};
 ghost use Rattle.model.specs.State.{in_context, claims, below, admitted};
 ghost use Rattle.origins.specs.Terms.{terms_in, slot_terms, column_terms, bare_in};
 
-use crate::authority::{granted_by, lendable_by};
-use masks::member;
-use model::{Capability, Context, Origin, Role, blank_role};
+use crate::authority::{RoleColumns, granted_by, lendable_by};
+use crate::standing::Party;
+use masks::{contained, member};
+use model::{Capability, Context, Origin, blank_role};
 
 #[derive(Clone, Copy)]
 pub struct Allowance {
@@ -22,56 +23,69 @@ pub struct Allowance {
     pub revoked: bool,
 }
 
-// The terms of a role x, or of a capability c, that grants `grants` and may lend `lendable`.
-#[tactic(auto, unfolding(crate::specs::Terms::slot_terms))]
-pub fn allowance_of(o: Origin, x: Role, c: Capability, grants: u32, lendable: u32) -> Allowance
-    ensures { terms_in result ≡ slot_terms o x c grants lendable }
-{
-    match o {
-        Origin::Role(k) => Allowance {
-            grants: grants,
-            lendable: lendable,
-            hours: x.hours,
-            places: x.places,
-            devices: x.devices,
-            first: 0,
-            last: 4294967295,
-            use_limit: 65535,
-            creation_limit: 65535,
-            hop_limit: 65535,
-            revoked: false,
-        },
-        Origin::Capability(n) => Allowance {
-            grants: grants,
-            lendable: lendable,
-            hours: c.hours,
-            places: c.places,
-            devices: c.devices,
-            first: c.first,
-            last: c.last,
-            use_limit: c.use_limit,
-            creation_limit: c.creation_limit,
-            hop_limit: c.hop_limit,
-            revoked: c.revoked,
-        },
+impl<'a> Party<'a> {
+    // The terms of a role or a capability that grants `grants` and may lend `lendable`.
+    #[tactic(auto, unfolding(crate::specs::Terms::slot_terms))]
+    pub fn allows(&self, grants: u32, lendable: u32) -> Allowance
+        ensures { terms_in result ≡ slot_terms self.now.origin self.now.role.now self.now.capability.now grants lendable }
+    {
+        match self.origin {
+            Origin::Role(_) => {
+                let x = self.role;
+                Allowance {
+                    grants,
+                    lendable,
+                    hours: x.hours,
+                    places: x.places,
+                    devices: x.devices,
+                    first: 0,
+                    last: u32::MAX,
+                    use_limit: u16::MAX,
+                    creation_limit: u16::MAX,
+                    hop_limit: u16::MAX,
+                    revoked: false,
+                }
+            }
+            Origin::Capability(_) => {
+                let c = self.capability;
+                Allowance {
+                    grants,
+                    lendable,
+                    hours: c.hours,
+                    places: c.places,
+                    devices: c.devices,
+                    first: c.first,
+                    last: c.last,
+                    use_limit: c.use_limit,
+                    creation_limit: c.creation_limit,
+                    hop_limit: c.hop_limit,
+                    revoked: c.revoked,
+                }
+            }
+        }
     }
-}
 
-// The same by the columns of the roles.
-pub fn allowance_in(columns: &[u32; 64], o: Origin, x: Role, c: Capability) -> Allowance
-    ensures { terms_in result ≡ column_terms columns.now o x c }
-{
-    let grants = granted_by(columns, o, c);
-    let lendable = lendable_by(columns, o, c);
-    allowance_of(o, x, c, grants, lendable)
+    // The same by the columns of the roles.
+    pub fn allows_by(&self, columns: &RoleColumns) -> Allowance
+        ensures { terms_in result ≡ column_terms columns.now self.now.origin self.now.role.now self.now.capability.now }
+    {
+        self.allows(
+            granted_by(columns, self.origin, *self.capability),
+            lendable_by(columns, self.origin, *self.capability),
+        )
+    }
 }
 
 // The same as far as it needs neither the role nor a column: life, limits and the revoked mark.
 pub fn bare_allowance(o: Origin, c: Capability) -> Allowance
     ensures { terms_in result ≡ bare_in o c }
 {
-    let x = blank_role();
-    allowance_of(o, x, c, 0, 0)
+    let party = Party {
+        origin: o,
+        role: &blank_role(),
+        capability: &c,
+    };
+    party.allows(0, 0)
 }
 
 // Hour, place and device are in their ranges.
@@ -79,7 +93,7 @@ pub fn bare_allowance(o: Origin, c: Capability) -> Allowance
 pub fn in_context(at: Context) -> bool
     ensures { result ≡ in_context at }
 {
-    (at.hour < 24) & (at.place < 16) & (at.device < 16)
+    at.hour < 24 && at.place < 16 && at.device < 16
 }
 
 // All three masks have the context's bit.
@@ -87,10 +101,9 @@ pub fn in_context(at: Context) -> bool
 pub fn admits(t: Allowance, at: Context) -> bool
     ensures { result ≡ admitted (terms_in t) at }
 {
-    let hour = member(t.hours as u64, at.hour);
-    let place = member(t.places as u64, at.place);
-    let device = member(t.devices as u64, at.device);
-    hour & place & device
+    member(u64::from(t.hours), at.hour)
+        && member(u64::from(t.places), at.place)
+        && member(u64::from(t.devices), at.device)
 }
 
 // What a capability claims is within what its origin allows.
@@ -98,15 +111,15 @@ pub fn admits(t: Allowance, at: Context) -> bool
 pub fn is_below(c: Capability, t: Allowance) -> bool
     ensures { result ≡ below (claims c) (terms_in t) }
 {
-    (c.permissions & t.grants == c.permissions)
-        & (c.lent & t.lendable == c.lent)
-        & (c.hours & t.hours == c.hours)
-        & (c.places & t.places == c.places)
-        & (c.devices & t.devices == c.devices)
-        & (t.first <= c.first)
-        & (c.last <= t.last)
-        & (c.use_limit <= t.use_limit)
-        & (c.creation_limit <= t.creation_limit)
-        & (c.hop_limit <= t.hop_limit)
-        & (!t.revoked | c.revoked)
+    contained(c.permissions, t.grants)
+        && contained(c.lent, t.lendable)
+        && contained(c.hours, t.hours)
+        && contained(u32::from(c.places), u32::from(t.places))
+        && contained(u32::from(c.devices), u32::from(t.devices))
+        && t.first <= c.first
+        && c.last <= t.last
+        && c.use_limit <= t.use_limit
+        && c.creation_limit <= t.creation_limit
+        && c.hop_limit <= t.hop_limit
+        && (!t.revoked || c.revoked)
 }

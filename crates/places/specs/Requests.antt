@@ -6,13 +6,9 @@ use Rattle.model.specs.declared.Named.{Named}
 use Rattle.model.specs.declared.Named.TheVariants.{Role as nameRole, Capability as nameCapability}
 use Rattle.model.specs.declared.LocalRequest.{LocalRequest}
 use Rattle.model.specs.declared.LocalRequest.TheVariants.{Enrol, Found, Grant, Appoint, Dismiss, Clock, Create, Allow, Lend, Hand, Open, Check, Close}
-use Rattle.model.specs.declared.Role.{Role}
-use Rattle.model.specs.declared.Capability.{Capability}
-use Rattle.model.specs.declared.Session.{Session}
 use Rattle.model.specs.declared.Register.{Register}
 use Rattle.model.specs.State.{capability_at, session_at}
 use Rattle.origins.specs.Numbers.{role_held, capability_held}
-use Rattle.slots.specs.declared.Slots.{Slots}
 use Rattle.slots.specs.Slots.{Places}
 use Rattle.places.specs.declared.Follow.{Follow}
 use Rattle.places.specs.declared.Follow.TheVariants.{Nothing, Role as TheRole, Origin as TheOrigin, Session as TheSession, Count}
@@ -86,18 +82,4 @@ places_in r m =
       parent = parent_place m.follow m.parent origin % 256;
       capability = n;
       session = m.session % 64;
-    }
-
--- the elements as they were read
-abbrev pub seen_slots : (clock enrolled count domain : ℕ) → Role → (parent capability : Capability) → Session → Slots
-seen_slots clock enrolled count domain role parent capability session =
-    record {
-      clock = clock;
-      enrolled = enrolled;
-      count = count;
-      domain = domain;
-      role = role;
-      parent = parent;
-      capability = capability;
-      session = session;
     }

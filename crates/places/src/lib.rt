@@ -2,11 +2,10 @@
 #![tactic(auto)]
 
 ghost use Rattle.std.specs.Prelude.{◌≡◌, ◌%◌, ◌<◌};
-ghost use Rattle.places.specs.Requests.{names_with, role_in, capability_in, names_of, capability_place, role_place, parent_place, changes_role, seen_slots};
+ghost use Rattle.places.specs.Requests.{role_in, capability_in, names_of, capability_place, role_place, parent_place, changes_role};
 
-use model::{Capability, LocalRequest, Named, Origin, Role, Session};
+use model::{Capability, LocalRequest, Named, Origin, Session};
 use origins::numbers::{capability_held, role_held};
-use slots::Slots;
 
 // What the places that a request leaves open are followed from: nothing, also where the role named may change; the capability's
 // origin; what the session is on; or the count, where the new capability goes.
@@ -30,27 +29,22 @@ pub struct Names {
     pub follow: Follow,
 }
 
-fn named_by(
-    user: u32,
-    role: u32,
-    parent: u32,
-    capability: u32,
-    session: u32,
-    follow: Follow,
-) -> Names
-    ensures { result ≡ names_with user role parent capability session follow }
-{
-    Names {
-        user: user,
-        role: role,
-        parent: parent,
-        capability: capability,
-        session: session,
-        follow: follow,
-    }
-}
+const NONE: Names = Names {
+    user: 0,
+    role: 0,
+    parent: 0,
+    capability: 0,
+    session: 0,
+    follow: Follow::Nothing,
+};
 
-// The number of the role, or of the capability, that is named; 0 if it is the other.
+// A role that may change.
+const CHANGED: Names = Names {
+    follow: Follow::Role,
+    ..NONE
+};
+
+// The number of the role, or of the capability, that is named; 0 if it is the other. Two functions, since they index two arrays.
 fn role_in(o: Named) -> u32
     ensures { result ≡ role_in o }
 {
@@ -73,33 +67,38 @@ pub fn names_of(q: LocalRequest) -> Names
     ensures { result ≡ names_of q }
 {
     match q {
-        LocalRequest::Enrol(user, _) => named_by(user, 0, 0, 0, 0, Follow::Nothing),
-        LocalRequest::Found(role, _, _, _, _) => named_by(0, role, 0, 0, 0, Follow::Role),
-        LocalRequest::Grant(role, _) => named_by(0, role, 0, 0, 0, Follow::Role),
-        LocalRequest::Appoint(user, role) => named_by(user, role, 0, 0, 0, Follow::Role),
-        LocalRequest::Dismiss(user, role) => named_by(user, role, 0, 0, 0, Follow::Role),
-        LocalRequest::Clock(_) => named_by(0, 0, 0, 0, 0, Follow::Nothing),
-        LocalRequest::Create(_, o, _, _) => named_by(
-            0,
-            role_in(o),
-            capability_in(o),
-            0,
-            0,
-            Follow::Count,
-        ),
-        LocalRequest::Allow(_, n, _) => named_by(0, 0, 0, n, 0, Follow::Origin),
-        LocalRequest::Lend(_, n, _) => named_by(0, 0, 0, n, 0, Follow::Origin),
-        LocalRequest::Hand(_, _, n) => named_by(0, 0, 0, n, 0, Follow::Nothing),
-        LocalRequest::Open(session, _, o, _) => named_by(
-            0,
-            role_in(o),
-            0,
-            capability_in(o),
+        LocalRequest::Enrol(user, _) => Names { user, ..NONE },
+        LocalRequest::Found(role, ..) | LocalRequest::Grant(role, _) => Names { role, ..CHANGED },
+        LocalRequest::Appoint(user, role) | LocalRequest::Dismiss(user, role) => Names {
+            user,
+            role,
+            ..CHANGED
+        },
+        LocalRequest::Clock(_) => NONE,
+        LocalRequest::Create(_, o, ..) => Names {
+            role: role_in(o),
+            parent: capability_in(o),
+            follow: Follow::Count,
+            ..NONE
+        },
+        LocalRequest::Allow(_, capability, _) | LocalRequest::Lend(_, capability, _) => Names {
+            capability,
+            follow: Follow::Origin,
+            ..NONE
+        },
+        LocalRequest::Hand(_, _, capability) => Names { capability, ..NONE },
+        LocalRequest::Open(session, _, o, _) => Names {
+            role: role_in(o),
+            capability: capability_in(o),
             session,
-            Follow::Nothing,
-        ),
-        LocalRequest::Check(session, _, _) => named_by(0, 0, 0, 0, session, Follow::Session),
-        LocalRequest::Close(session) => named_by(0, 0, 0, 0, session, Follow::Nothing),
+            ..NONE
+        },
+        LocalRequest::Check(session, _, _) => Names {
+            session,
+            follow: Follow::Session,
+            ..NONE
+        },
+        LocalRequest::Close(session) => Names { session, ..NONE },
     }
 }
 
@@ -107,9 +106,7 @@ fn capability_place(follow: Follow, named: u32, on: Origin, count: u16) -> u32
     ensures { result ≡ capability_place follow named on count }
 {
     match follow {
-        Follow::Nothing => named,
-        Follow::Role => named,
-        Follow::Origin => named,
+        Follow::Nothing | Follow::Role | Follow::Origin => named,
         Follow::Session => capability_held(on) as u32,
         Follow::Count => count as u32,
     }
@@ -119,11 +116,9 @@ fn role_place(follow: Follow, named: u32, on: Origin, origin: Origin) -> u32
     ensures { result ≡ role_place follow named on origin }
 {
     match follow {
-        Follow::Nothing => named,
-        Follow::Role => named,
+        Follow::Nothing | Follow::Role | Follow::Count => named,
         Follow::Origin => role_held(origin) as u32,
         Follow::Session => role_held(on) as u32,
-        Follow::Count => named,
     }
 }
 
@@ -131,11 +126,8 @@ fn parent_place(follow: Follow, named: u32, origin: Origin) -> u32
     ensures { result ≡ parent_place follow named origin }
 {
     match follow {
-        Follow::Nothing => named,
-        Follow::Role => named,
+        Follow::Nothing | Follow::Role | Follow::Session | Follow::Count => named,
         Follow::Origin => capability_held(origin) as u32,
-        Follow::Session => named,
-        Follow::Count => named,
     }
 }
 
@@ -143,14 +135,7 @@ fn parent_place(follow: Follow, named: u32, origin: Origin) -> u32
 pub fn changes_role(m: Names) -> bool
     ensures { result ≡ changes_role m.follow }
 {
-    let follow = m.follow;
-    match follow {
-        Follow::Nothing => false,
-        Follow::Role => true,
-        Follow::Origin => false,
-        Follow::Session => false,
-        Follow::Count => false,
-    }
+    matches!(m.follow, Follow::Role)
 }
 
 // Where the user, the session, the capability, the role and the parent stand that a request names, each within the register: the
@@ -170,49 +155,17 @@ pub fn session_at(m: Names) -> usize
 pub fn capability_at(m: Names, s: Session, count: u16) -> usize
     ensures { (result ≡ capability_place m.follow m.capability s.on count % 256) × (result < 256) }
 {
-    let follow = m.follow;
-    let on = s.on;
-    (capability_place(follow, m.capability, on, count) % 256) as usize
+    (capability_place(m.follow, m.capability, s.on, count) % 256) as usize
 }
 
 pub fn role_at(m: Names, s: Session, c: Capability) -> usize
     ensures { (result ≡ role_place m.follow m.role s.on c.origin % 32) × (result < 32) }
 {
-    let follow = m.follow;
-    let on = s.on;
-    let origin = c.origin;
-    (role_place(follow, m.role, on, origin) % 32) as usize
+    (role_place(m.follow, m.role, s.on, c.origin) % 32) as usize
 }
 
 pub fn parent_at(m: Names, c: Capability) -> usize
     ensures { (result ≡ parent_place m.follow m.parent c.origin % 256) × (result < 256) }
 {
-    let follow = m.follow;
-    let origin = c.origin;
-    (parent_place(follow, m.parent, origin) % 256) as usize
-}
-
-// The elements read at these places, with the clock, the enrolled users and the count.
-pub fn seen(
-    clock: u32,
-    enrolled: u64,
-    count: u16,
-    domain: u8,
-    role: Role,
-    parent: Capability,
-    capability: Capability,
-    session: Session,
-) -> Slots
-    ensures { result ≡ seen_slots clock enrolled count domain role parent capability session }
-{
-    Slots {
-        clock,
-        enrolled,
-        count,
-        domain,
-        role,
-        parent,
-        capability,
-        session,
-    }
+    (parent_place(m.follow, m.parent, c.origin) % 256) as usize
 }

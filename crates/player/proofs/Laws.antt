@@ -3,48 +3,46 @@ use mathlib.Core.Path.{◌≡◌, refl, sym, ap, ◌∙◌}
 use mathlib.Core.Bool.{Bool, true, false}
 use mathlib.Core.List.{List, ◌++◌}
 use mathlib.Core.Option.{Option, none, some}
-use Prim.Native.Nat.{ℕ, ◌+◌, ◌-◌, ◌%◌, ◌≤◌, ◌<◌}
+use Rattle.std.specs.Prelude.{Option as Maybe, Some, None}
+use Prim.Native.Nat.{ℕ, ◌+◌, ◌-◌, ◌≤◌, ◌<◌}
 use native.Mathlib.Omega.{arith}
 use borrow.Author.Tests.{le-leb, lt-leb}
 use borrow.Rule.Slice.PartMut.{put_mid}
 use lib.Dec.{T}
 use lib.ListN.{length, take, drop, length-append}
-use lib.Seq.{drop-cons}
-use Rattle.buffers.proofs.Parts.{placed, placed_append, tail_back, length_tail}
+use Rattle.buffers.proofs.Parts.{placed, placed_append, tail, tail_back, length_tail}
 use Rattle.masks.specs.Bytes.{front, split}
 use Rattle.masks.proofs.Truth.{T→true, true→T}
 use Rattle.model.specs.declared.Register.{Register}
 use Rattle.model.specs.declared.Request.{Request}
-use Rattle.model.specs.declared.Parsed.{Parsed}
-use Rattle.model.specs.declared.Parsed.TheVariants.{Line, NoRequest}
 use Rattle.model.specs.Rules.{well_formed}
 use Rattle.model.specs.Rulings.{Outcome, refused, Effect}
 use Rattle.model.specs.Calls.{Call, settled, step}
 use Rattle.model.specs.Requests.{call_of, parsed_call}
 use Rattle.model.specs.Lines.{parse, printed}
-use Rattle.model.specs.Journal.{requested, line_effect, unended, transcript, journal}
+use Rattle.model.specs.Journal.{requested, line_effect, transcript, journal}
 use Rattle.model.proofs.Settling.{step-settled, broken}
 use Rattle.model.proofs.Rules.{kept→, kept←}
 use Rattle.model.proofs.Running.{step_keeps}
 use Rattle.text.specs.Parts.{before}
-use Rattle.player.proofs.Transcripts.{transcript-line}
+use Rattle.player.proofs.Transcripts.{transcript-line, transcript_last}
 use Rattle.answers.specs.Writing.{printed_into, filled}
 use Rattle.answers.proofs.WriteLaws.{into_room, filled_room}
 use Rattle.player.specs.Play.{journal_length, journal_buffer}
 
 -- ---- one line
 
-module _ (r : Register) (line : List ℕ) (q : Parsed) (e : parsed_call q ≡ parse line) where
-  pub line_none : q ≡ NoRequest → record { answer = refused 1; after = r } ≡ line_effect r line
+module _ (r : Register) (line : List ℕ) (q : Maybe Request) (e : parsed_call q ≡ parse line) where
+  pub line_none : q ≡ None → record { answer = refused 1; after = r } ≡ line_effect r line
   unfolding line_effect
   line_none g = ap (requested r) (sym (ap parsed_call g) ∙ e)
 
-  pub line_broken : (p : Request) → q ≡ Line p → well_formed r ≡ false → record { answer = refused 15; after = r } ≡ line_effect r line
+  pub line_broken : (p : Request) → q ≡ Some p → well_formed r ≡ false → record { answer = refused 15; after = r } ≡ line_effect r line
   unfolding line_effect
   line_broken p g k = broken r (call_of p) k ∙ ap (requested r) (sym (ap parsed_call g) ∙ e)
 
 -- a line that was parsed says its request's call
-pub line_says : (line : List ℕ) (q : Parsed) → parsed_call q ≡ parse line → (p : Request) → q ≡ Line p → parse line ≡ some (call_of p)
+pub line_says : (line : List ℕ) (q : Maybe Request) → parsed_call q ≡ parse line → (p : Request) → q ≡ Some p → parse line ≡ some (call_of p)
 line_says line q e p g = sym e ∙ ap parsed_call g
 
 -- the call of a line, settled on a register that keeps the rules
@@ -88,60 +86,66 @@ module _ (at : ℕ) (o : Outcome) (s : List ℕ) (room : at + length (printed o)
   pub answer_size : {n : ℕ} → n ≡ filled (printed o) (take (length s - at) (drop at s)) → n ≡ length (printed o)
   answer_size e = e ∙ filled_room (printed o) _ fits
 
--- something follows the last line feed
-pub unended_some : (s : List ℕ) (at : ℕ) → at < length s → unended (drop at s) ≡ printed (refused 1)
-unended_some s at l = ap unended (drop-cons s at 0 l)
-
 -- ---- a turn of the loop
 
--- with r, what is still to be printed for the input from `at` on stands after `to` bytes and gives the whole
-pub record Playing (start : Register) (input out₀ : List ℕ) (r : Register) (out : List ℕ) (at to : ℕ) : Type 0 where
-  pub inside : at ≤ length input
-  pub text : placed to (transcript r (split 10 (drop at input))) out ≡ front (transcript start (split 10 input)) out₀
-  pub size : to + length (transcript r (split 10 (drop at input))) ≡ length (transcript start (split 10 input))
+-- `whole` is printed of the whole input, into out₀: with r, what is still to be printed of the rest stands after `to` bytes
+pub record Playing (whole out₀ : List ℕ) (r : Register) (out rest : List ℕ) (to : ℕ) : Type 0 where
+  pub text : placed to (transcript r (split 10 rest)) out ≡ front whole out₀
+  pub size : to + length (transcript r (split 10 rest)) ≡ length whole
   pub kept : length out ≡ length out₀
-  pub room : length (transcript start (split 10 input)) ≤ length out₀
+  pub room : length whole ≤ length out₀
 
--- there is room for what is left
-pub left_fits : (start : Register) (input out₀ : List ℕ) (r : Register) (out : List ℕ) (at to : ℕ) → Playing start input out₀ r out at to
-    → to + length (transcript r (split 10 (drop at input))) ≤ length out
-left_fits start input out₀ r out at to p = omega (arith, p.size, p.room, p.kept)
+-- what the printer says of the m bytes of the answer o, and of what it left
+abbrev pub Shown : List ℕ → ℕ → Outcome → ℕ → List ℕ → Type 0
+Shown out to o m last =
+    let part = take (length out - to) (drop to out) in (m ≡ filled (printed o) part) × (last ≡ printed_into (printed o) part)
 
-pub to_within : (start : Register) (input out₀ : List ℕ) (r : Register) (out : List ℕ) (at to : ℕ) → Playing start input out₀ r out at to → to ≤ length out
-to_within start input out₀ r out at to p = omega (arith, left_fits start input out₀ r out at to p)
+module _ (whole out₀ : List ℕ) (r : Register) (out rest : List ℕ) (to : ℕ) (p : Playing whole out₀ r out rest to) where
+  -- there is room for what is left
+  pub left_fits : to + length (transcript r (split 10 rest)) ≤ length out
+  left_fits = omega (arith, p.size, p.room, p.kept)
 
--- the line of n bytes, answered o with the register next: m bytes are printed, and `last` is what the printer left
-module _ (start : Register) (input out₀ : List ℕ) (r : Register) (out : List ℕ) (at to : ℕ) (p : Playing start input out₀ r out at to)
-    (n : ℕ) (line : n ≡ length (before 10 (drop at input))) (more : at + n < length input) (o : Outcome) (next : Register)
-    (effect : record { answer = o; after = next } ≡ line_effect r (take (at + n - at) (drop at input)))
-    (m : ℕ) (last : List ℕ) (printing : (m ≡ filled (printed o) (take (length out - to) (drop to out))) × (last ≡ printed_into (printed o) (take (length out - to) (drop to out)))) where
-  left : transcript r (split 10 (drop at input)) ≡ printed o ++ transcript next (split 10 (drop (at + n + 1) input))
-  left =
-      transcript-line r input at n line more
-      ∙ ap (λ (z : Effect Register). printed z.answer ++ transcript z.after (split 10 (drop (at + n + 1) input))) (sym effect)
+  pub to_within : to ≤ length out
+  to_within = omega (arith, left_fits)
 
-  sum : length (transcript r (split 10 (drop at input))) ≡ length (printed o) + length (transcript next (split 10 (drop (at + n + 1) input)))
-  sum = ap length left ∙ length-append (printed o) _
+  -- the line of n bytes, answered o with the register next, of which m bytes are printed: no sum wraps, and the invariant goes on
+  module _ (n : ℕ) (line : n ≡ length (before 10 rest)) (more : n < length rest) (o : Outcome) (next : Register)
+      (effect : record { answer = o; after = next } ≡ line_effect r (take n rest)) (m : ℕ) (last : List ℕ) (shown : Shown out to o m last) where
+    left : transcript r (split 10 rest) ≡ printed o ++ transcript next (split 10 (drop (n + 1) rest))
+    left =
+        transcript-line r rest n line more
+        ∙ ap (λ (z : Effect Register). printed z.answer ++ transcript z.after (split 10 (drop (n + 1) rest))) (sym effect)
 
-  fit : to + length (printed o) ≤ length out
-  fit = omega (arith, left_fits start input out₀ r out at to p, sum)
+    sum : length (transcript r (split 10 rest)) ≡ length (printed o) + length (transcript next (split 10 (drop (n + 1) rest)))
+    sum = ap length left ∙ length-append (printed o) _
 
-  count : m ≡ length (printed o)
-  count = answer_size to o out fit printing.0
+    fit : to + length (printed o) ≤ length out
+    fit = omega (arith, left_fits, sum)
 
-  pub no_wrap : to + m ≤ length out
-  no_wrap = omega (arith, fit, count)
+    count : m ≡ length (printed o)
+    count = answer_size to o out fit shown.0
 
-  pub turn : length (put_mid to (length out - to) out last) ≡ length out
-      → Playing start input out₀ next (put_mid to (length out - to) out last) (at + n + 1) (to + m)
-  turn same =
-      record {
-        inside = omega (arith, more);
-        text = rw count (answer_step to o out fit _ _ last (rw left at p.text) printing.1);
-        size = omega (arith, count, sum, p.size);
-        kept = same ∙ p.kept;
-        room = p.room;
-      }
+    pub played_fits : to + m ≤ length out
+    played_fits = omega (arith, fit, count)
+
+    turn : length (put_mid to (length out - to) out last) ≡ length out
+        → Playing whole out₀ next (put_mid to (length out - to) out last) (drop (n + 1) rest) (to + m)
+    turn same =
+        record {
+          text = rw count (answer_step to o out fit _ _ last (rw left at p.text) shown.1);
+          size = omega (arith, count, sum, p.size);
+          kept = same ∙ p.kept;
+          room = p.room;
+        }
+
+    pub played : {formed : Bool} → formed ≡ well_formed r → length (put_mid to (length out - to) out last) ≡ length out
+        → Playing whole out₀ next (put_mid to (length out - to) out last) (take (length rest - (n + 1)) (drop (n + 1) rest)) (to + m) × (formed ≡ well_formed next)
+    played formed same = (rw (tail (n + 1) rest) (turn same), formed_after r _ _ formed effect)
+
+  -- a last line without its line feed: its refusal is all that is left, and there is room for that
+  module _ (n : ℕ) (line : n ≡ length (before 10 rest)) (all : n ≡ length rest) (some : 0 < length rest) where
+    pub unended_room : to + length (printed (refused 1)) ≤ length out
+    unended_room = omega (arith, left_fits, ap length (transcript_last r rest n line all some))
 
 -- ---- the whole journal
 

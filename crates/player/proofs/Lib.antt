@@ -2,4 +2,3 @@
 pub mod Transcripts
 pub mod Laws
 pub mod Room
-pub mod Turns

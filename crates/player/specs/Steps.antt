@@ -1,8 +1,9 @@
 -- Intermediate: the code's own terms, proved to come to the definitions of `model`.
 -- What is to be done for a line of a journal.
-use Rattle.std.specs.Prelude.{◌≡◌, Bool, true, List, ℕ}
+use Rattle.std.specs.Prelude.{◌≡◌, Bool, true, List, ℕ, Result, Ok, Err}
 use Rattle.std.proofs.Math.Option.{some}
 use Rattle.model.specs.declared.Register.{Register}
+use Rattle.model.specs.declared.Refusal.{Refusal}
 use Rattle.model.specs.Rules.{well_formed}
 use Rattle.model.specs.Rulings.{refused}
 use Rattle.model.specs.Calls.{check}
@@ -10,11 +11,11 @@ use Rattle.model.specs.Lines.{parse}
 use Rattle.model.specs.Requests.{refusal_number, local_call, tree_call}
 use Rattle.model.specs.Journal.{line_effect}
 use Rattle.player.specs.declared.step.Step.{Step}
-use Rattle.player.specs.declared.step.Step.TheVariants.{Refuse, Check, One, Tree}
+use Rattle.player.specs.declared.step.Step.TheVariants.{Check, One, Tree}
 
 -- on any register of which the test of the rules says `formed`: the line is refused, or it is the request's call
-abbrev pub Fits : Bool → List ℕ → Step → Type 0
-Fits formed line (Refuse why) = (r : Register) → well_formed r ≡ formed → record { answer = refused (refusal_number why); after = r } ≡ line_effect r line
-Fits formed line (Check s q context) = (formed ≡ true) × (parse line ≡ some (check s q context))
-Fits formed line (One q) = (formed ≡ true) × (parse line ≡ some (local_call q))
-Fits formed line (Tree t) = (formed ≡ true) × (parse line ≡ some (tree_call t))
+abbrev pub Fits : Bool → List ℕ → Result Step Refusal → Type 0
+Fits formed line (Err why) = (r : Register) → well_formed r ≡ formed → record { answer = refused (refusal_number why); after = r } ≡ line_effect r line
+Fits formed line (Ok (Check s q context)) = (formed ≡ true) × (parse line ≡ some (check s q context))
+Fits formed line (Ok (One q)) = (formed ≡ true) × (parse line ≡ some (local_call q))
+Fits formed line (Ok (Tree t)) = (formed ≡ true) × (parse line ≡ some (tree_call t))

@@ -1,116 +1,124 @@
 // A journal over bytes: an answer for each line, each printed into the part of the output after the one before it.
 #![tactic(auto)]
 
-ghost use Rattle.std.specs.Prelude.{◌≡◌, ◌*◌, ◌≤◌, length};
+ghost use Rattle.std.specs.Prelude.{◌≡◌, ◌*◌, ◌≤◌, T, length};
 ghost use Rattle.masks.specs.Bytes.{front, split};
-ghost use Rattle.model.specs.Journal.{transcript};
+ghost use Rattle.model.specs.Rules.{well_formed};
+ghost use Rattle.model.specs.Calls.{check, settled};
+ghost use Rattle.model.specs.Requests.{local_call, tree_call};
+ghost use Rattle.model.specs.Journal.{line_effect, transcript};
+ghost use Rattle.origins.specs.Authority.{Columns};
+ghost use Rattle.dispatch.specs.Decide.{performed};
+ghost use Rattle.sweeps.specs.Sweeping.{swept_by};
 ghost use Rattle.player.specs.Play.{journal_length, journal_buffer};
 
 use crate::step::{Step, step_of};
 use answers::print;
-use dispatch::{decide, order_of};
-use model::{Answer, Refusal, Register};
-use origins::authority::columns_of;
+use dispatch::{order_of, perform};
+use model::{Answer, Context, LocalRequest, Refusal, Register, TreeRequest};
+use origins::authority::{RoleColumns, columns_of};
 use origins::numbers::{capability_held, role_held};
-use places::{
-    capability_at, changes_role, names_of, parent_at, role_at, seen, session_at, user_at,
-};
+use places::{changes_role, names_of};
 use rules::well_formed;
 use sessions::answer_check;
-use sweeps::sweep_all;
+use sweeps::{Sweep, sweep_all};
 use text::parts::count_before;
 use tree::orders::Order;
 
 mod step;
 
-// The lines of an input, from any register; the output has room for five bytes a byte. The register is one local, changed in
-// place: a function that took it and read an element would copy it for each line, so the elements are read and put back here.
-#[tactic(auto, using(buffers::proofs::Parts::tail, buffers::proofs::Parts::length_tail, buffers::proofs::Parts::placed_nil, sessions::proofs::Commits::check_done, dispatch::proofs::Columns::columns_kept, dispatch::proofs::Commits::placed, dispatch::proofs::Commits::commit, crate::proofs::Transcripts::transcript_last, crate::proofs::Transcripts::transcript_done, crate::proofs::Laws::Playing, crate::proofs::Laws::left_fits, crate::proofs::Laws::to_within, crate::proofs::Laws::turn, crate::proofs::Laws::no_wrap, crate::proofs::Laws::line_done, crate::proofs::Laws::formed_after, crate::proofs::Laws::answer_last, crate::proofs::Laws::answer_size, crate::proofs::Laws::unended_some, crate::proofs::Room::transcript_most), unfolding(slots::specs::Slots::put))]
+// A check, which changes nothing.
+#[tactic(auto, using(sessions::proofs::Commits::check_done))]
+fn checked(r: &Register, columns: &RoleColumns, number: u32, permission: u32, at: Context) -> Answer
+    requires formed { T (well_formed r.now) }
+    requires columns { Columns columns.now r.now.roles }
+    ensures { performed result r.now ≡ settled r.now (check number permission at) }
+{
+    let s = r.sessions[(number % 64) as usize];
+    let x = r.roles[(role_held(s.on) % 32) as usize];
+    let c = r.capabilities[capability_held(s.on) as usize];
+    answer_check(r.clock, s, x, c, columns, number, permission, at)
+}
+
+// A call that changes only elements that it names. The columns stay where it changes no role. That the register keeps the rules is a
+// clause and no type: a journal may begin with one that breaks them, and to wrap it for each line would copy it.
+#[tactic(auto, using(dispatch::proofs::Columns::columns_stay))]
+#[inline(never)]
+fn perform_local(r: &mut Register, columns: &mut RoleColumns, q: LocalRequest) -> Answer
+    requires formed { T (well_formed r.old) }
+    requires columns { Columns columns.old r.old.roles }
+    ensures effect { performed result r.new ≡ settled r.old (local_call q) }
+    ensures columns { Columns columns.new r.new.roles }
+{
+    let answer = perform(r, columns, q);
+    if changes_role(names_of(q)) {
+        *columns = columns_of(&r.roles);
+    }
+    answer
+}
+
+// A sweep by value. It is no part of `perform_tree`, as a function pays for its locals when it is entered, and most calls only read.
+#[inline(never)]
+fn sweep(r: &mut Register, columns: &mut RoleColumns, s: Sweep) -> Answer
+    requires { length r.old.roles ≡ 32 }
+    ensures effect { performed result r.new ≡ swept_by r.old s }
+    ensures columns { Columns columns.new r.new.roles }
+{
+    let reply = sweep_all(*r, s);
+    *columns = columns_of(&reply.register.roles);
+    *r = reply.register;
+    reply.answer
+}
+
+// A call over the whole tree.
+fn perform_tree(r: &mut Register, columns: &mut RoleColumns, t: TreeRequest) -> Answer
+    requires formed { T (well_formed r.old) }
+    requires columns { Columns columns.old r.old.roles }
+    ensures effect { performed result r.new ≡ settled r.old (tree_call t) }
+    ensures columns { Columns columns.new r.new.roles }
+{
+    match order_of(r, t)? {
+        Order::Value(n) => Ok(n),
+        Order::Sweep(s) => sweep(r, columns, s),
+    }
+}
+
+// A line. The register is changed in place, since a function that took it by value would copy it for each line. `formed` is what the
+// test of the rules says of it, and `columns` are those of its roles.
+#[tactic(auto, using(crate::proofs::Laws::line_done))]
+fn play_line(r: &mut Register, columns: &mut RoleColumns, formed: bool, line: &[u8]) -> Answer
+    requires formed { formed ≡ well_formed r.old }
+    requires columns { Columns columns.old r.old.roles }
+    ensures effect { performed result r.new ≡ line_effect r.old line.now }
+    ensures columns { Columns columns.new r.new.roles }
+{
+    match step_of(formed, line)? {
+        Step::Check(number, permission, at) => checked(r, columns, number, permission, at),
+        Step::One(q) => perform_local(r, columns, q),
+        Step::Tree(t) => perform_tree(r, columns, t),
+    }
+}
+
+// The lines of an input, from any register; the output has room for five bytes a byte. No `for` over the parts between line feeds: the
+// last part is answered otherwise, whatever it holds.
+#[tactic(auto, using(buffers::proofs::Parts::tail, buffers::proofs::Parts::length_tail, buffers::proofs::Parts::placed_nil, crate::proofs::Transcripts::transcript_done, crate::proofs::Laws::Playing, crate::proofs::Laws::left_fits, crate::proofs::Laws::to_within, crate::proofs::Room::transcript_most))]
 fn play(start: Register, input: &[u8], out: &mut [u8]) -> usize
     requires { 5 * length input.now ≤ length out.old }
     ensures { (result ≡ length (transcript start (split 10 input.now))) × (out.new ≡ front (transcript start (split 10 input.now)) out.old) × (result ≤ length out.old) }
 {
     let formed = well_formed(start);
-    let roles = start.roles;
-    let mut columns = columns_of(roles);
+    let mut columns = columns_of(&start.roles);
     let mut r = start;
-    let mut at: usize = 0;
-    let mut to: usize = 0;
-    while at < input.len() {
-        let end = at + count_before(&input[at..], 10);
-        if end == input.len() {
-            return to + print(&mut out[to..], Answer::Refused(Refusal::Malformed));
+    let mut rest = input;
+    let mut to = 0;
+    while 0 < rest.len() {
+        let n = count_before(rest, 10);
+        if n == rest.len() {
+            return to + print(&mut out[to..], Err(Refusal::Malformed));
         }
-        let step = step_of(formed, &input[at..end]);
-        at = end + 1;
-        match step {
-            Step::Refuse(why) => {
-                let n = print(&mut out[to..], Answer::Refused(why));
-                to += n;
-            }
-            Step::Check(number, permission, context) => {
-                let s = r.sessions[(number % 64) as usize];
-                let on = s.on;
-                let x = r.roles[(role_held(on) % 32) as usize];
-                let c = r.capabilities[capability_held(on) as usize];
-                let answer = answer_check(r.clock, s, x, c, &columns, number, permission, context);
-                let n = print(&mut out[to..], answer);
-                to += n;
-            }
-            Step::Tree(t) => {
-                let order = order_of(r, t);
-                match order {
-                    Order::Answered(answer) => {
-                        let n = print(&mut out[to..], answer);
-                        to += n;
-                    }
-                    Order::Swept(s) => {
-                        let reply = sweep_all(r, s);
-                        let answer = reply.answer;
-                        let n = print(&mut out[to..], answer);
-                        to += n;
-                        let next = reply.register;
-                        let roles = next.roles;
-                        columns = columns_of(roles);
-                        r = next;
-                    }
-                }
-            }
-            Step::One(q) => {
-                let m = names_of(q);
-                let sn = session_at(m);
-                let s = r.sessions[sn];
-                let cn = capability_at(m, s, r.count);
-                let c = r.capabilities[cn];
-                let rn = role_at(m, s, c);
-                let x = r.roles[rn];
-                let pn = parent_at(m, c);
-                let p = r.capabilities[pn];
-                let un = user_at(m);
-                let v = seen(r.clock, r.enrolled, r.count, r.domains[un], x, p, c, s);
-                let d = decide(v, &columns, q);
-                let answer = d.answer;
-                let n = print(&mut out[to..], answer);
-                to += n;
-                let w = d.slots;
-                r.clock = w.clock;
-                r.enrolled = w.enrolled;
-                r.count = w.count;
-                r.domains[un] = w.domain;
-                let x = w.role;
-                r.roles[rn] = x;
-                let x = w.parent;
-                r.capabilities[pn] = x;
-                let x = w.capability;
-                r.capabilities[cn] = x;
-                let x = w.session;
-                r.sessions[sn] = x;
-                if changes_role(m) {
-                    let roles = r.roles;
-                    columns = columns_of(roles);
-                }
-            }
-        }
+        let answer = play_line(&mut r, &mut columns, formed, &rest[..n]);
+        to += print(&mut out[to..], answer);
+        rest = &rest[n + 1..];
     }
     to
 }
@@ -125,7 +133,7 @@ pub fn journal(start: Register, input: &[u8], out: &mut [u8]) -> usize
         return 0;
     }
     if 32768 < input.len() {
-        return print(out, Answer::Refused(Refusal::Malformed));
+        return print(out, Err(Refusal::Malformed));
     }
     play(start, input, out)
 }

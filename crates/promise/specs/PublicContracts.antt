@@ -99,8 +99,8 @@ module _ {M : Type 1} {𝓤 : Ura M} (𝓛 : Logic 𝓤) (mem : Memory → SProp
     pub apply_says : (κs : _) (r : _) (request : _)
         → Says (apply-contracts.apply.clauses 𝓛 mem runs κs (r, (request, tt))) (λ q end. effect_of q ≡ step r (call_of request))
     pub apply_all : batch-proofs.apply_all.Statement.statement M
-    pub apply_all_says : (κs : _) (r : _) (items : _) (count : _)
-        → Says (batch-contracts.apply_all.clauses 𝓛 mem runs κs (r, (items, (count, tt)))) (λ q end. (q.register ≡ run r (calls_of count items)) × (outcomes_of q.answers ≡ padded_answers r count items))
+    pub apply_all_says : (κs : _) (r : _) (requests : _)
+        → Says (batch-contracts.apply_all.clauses 𝓛 mem runs κs (r, (requests, tt))) (λ q end. (q.register ≡ run r (calls_of requests.now)) × (outcomes_of q.answers ≡ padded_answers r requests.now))
     -- a journal, and one call from C
     pub journal : player-proofs.journal.Statement.statement M
     pub journal_says : (κs : _) (r : _) (input : _) (out : _)

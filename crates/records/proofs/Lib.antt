@@ -1,6 +1,6 @@
 -- Laws of records, written and read again.
 pub mod Records
 pub mod Reading
-pub mod Tables
+pub mod Layouts
 pub mod ExactRecords
 pub mod ExactWriting

@@ -12,13 +12,10 @@ use Rattle.model.specs.Fields.{Coding, width, present_length, capability_codings
 use Rattle.model.specs.Image.{read_capabilities, after_capabilities}
 use Rattle.records.specs.Exact.{exact_capability, exact_capabilities, capabilities_length}
 use Rattle.fields.proofs.Parts.{fill_step}
+use Rattle.fields.proofs.Fields.{total}
 
 bit_small : (m w : ℕ) → m % 2 * w ≤ w
 bit_small m w = let b : m % 2 ≤ 1 = omega arith in rw one-mul at (mul-le-mul_right w b)
-
-unfoldable total : List Coding → ℕ
-total [] = 0
-total (c ∷ cs) = width c + total cs
 
 length_small : (m : ℕ) (cs : List Coding) → present_length m cs ≤ total cs
 unfolding total

@@ -1,14 +1,15 @@
 // Records read without refusing: bytes that are not there count as 0.
 ghost use Rattle.std.specs.Prelude.{◌≡◌, ◌+◌, ◌<◌, drop};
-ghost use Rattle.model.specs.Fields.{origin_of, role_codings, role_of, read_role, session_codings, session_of, read_session, head_codings, capability_codings, capability_of, read_head, read_capability, capability_length};
+ghost use Rattle.model.specs.Fields.{origin_of, role_codings, role_of, read_role, session_codings, session_of, read_session, head_codings, capability_codings, capability_of, read_capability, capability_length};
 ghost use Rattle.fields.specs.Codes.{Bytes, Fitted};
 ghost use Rattle.records.specs.Exact.{exact_capability};
 
-use crate::record::{capability_codes, head_codes, role_codes, session_codes};
-use fields::field::{field_map, read_all, read_present};
+use crate::record::{capability_layout, head_layout, role_layout, session_layout};
+use fields::field::field_map;
+use fields::layout::ALL;
 use model::{Capability, Origin, Role, Session};
 
-// A role of its fields.
+// A role of its fields, numbered as in its layout and in the definitions, which keep fields and codings as two lists.
 #[tactic(auto, unfolding(model::specs::Fields::role_codings, model::specs::Fields::role_of))]
 fn role_of(f: [u64; 6]) -> Role
     requires { Fitted role_codings f }
@@ -25,15 +26,15 @@ fn role_of(f: [u64; 6]) -> Role
     }
 }
 
-#[tactic(auto, using(crate::proofs::Tables::says_table, crate::proofs::Tables::role_codes_lem, crate::proofs::Tables::role_count, crate::proofs::Tables::role_reads))]
+// Roles and sessions are each read by their own layout into their own type; a trait for the two would say no less than these lines. Where
+// they may begin, and that s holds bytes, stand as clauses, as where numbers are read.
+#[tactic(auto, using(crate::proofs::Layouts::role_fitted, crate::proofs::Layouts::role_reads))]
 pub fn read_role(s: &[u8], at: usize) -> Role
     requires { (at < 60000) × Bytes s.now }
     ensures { result ≡ read_role (drop at s.now) }
 {
-    let codes = role_codes();
-    let mut f = [0u64; 6];
-    read_all(s, at, &codes, &mut f);
-    role_of(f)
+    let (fields, _) = role_layout().read(s, at, ALL);
+    role_of(fields)
 }
 
 // "kind (1: 0 role, 1 pass), number (1)"
@@ -42,13 +43,13 @@ fn origin_of(kind: u64, n: u64) -> Origin
     requires { n < 256 }
     ensures { result ≡ origin_of kind n }
 {
-    if kind == 0 {
-        return Origin::Role(n as u8);
+    match kind {
+        0 => Origin::Role(n as u8),
+        _ => Origin::Capability(n as u8),
     }
-    Origin::Capability(n as u8)
 }
 
-// A session of its fields.
+// A session of its fields, numbered as in its layout and in the definitions.
 #[tactic(auto, unfolding(model::specs::Fields::session_codings, model::specs::Fields::session_of))]
 fn session_of(f: [u64; 6]) -> Session
     requires { Fitted session_codings f }
@@ -64,18 +65,16 @@ fn session_of(f: [u64; 6]) -> Session
     }
 }
 
-#[tactic(auto, using(crate::proofs::Tables::says_table, crate::proofs::Tables::session_codes_lem, crate::proofs::Tables::session_count, crate::proofs::Tables::session_reads))]
+#[tactic(auto, using(crate::proofs::Layouts::session_fitted, crate::proofs::Layouts::session_reads))]
 pub fn read_session(s: &[u8], at: usize) -> Session
     requires { (at < 60000) × Bytes s.now }
     ensures { result ≡ read_session (drop at s.now) }
 {
-    let codes = session_codes();
-    let mut f = [0u64; 6];
-    read_all(s, at, &codes, &mut f);
-    session_of(f)
+    let (fields, _) = session_layout().read(s, at, ALL);
+    session_of(fields)
 }
 
-// A capability of its head and its fields.
+// A capability of its head and its fields, numbered likewise.
 #[tactic(auto, using(fields::proofs::Reading::bits_of, fields::proofs::Reading::fitted_fits), unfolding(model::specs::Fields::head_codings, model::specs::Fields::capability_of, model::specs::Fields::capability_codings))]
 fn capability_of(h: [u64; 4], f: [u64; 15]) -> Capability
     requires { Fitted head_codings h × Fitted capability_codings f }
@@ -102,18 +101,7 @@ fn capability_of(h: [u64; 4], f: [u64; 15]) -> Capability
     }
 }
 
-// The head of the capability at `at`.
-#[tactic(auto, using(crate::proofs::Tables::says_table, crate::proofs::Tables::head_codes_lem, crate::proofs::Tables::head_count, crate::proofs::Tables::head_reads))]
-fn read_head(s: &[u8], at: usize) -> [u64; 4]
-    requires { at < 60000 }
-    ensures { result ≡ read_head (drop at s.now) }
-{
-    let codes = head_codes();
-    let mut h = [0u64; 4];
-    read_all(s, at, &codes, &mut h);
-    h
-}
-
+// A flag and no Option: what `read_capability` ensures of the capability and of its end holds also where it is not written exactly so.
 #[derive(Clone, Copy)]
 pub struct ReadCapability {
     pub exact: bool,
@@ -122,21 +110,18 @@ pub struct ReadCapability {
 }
 
 // The capability at `at`, whether it is written exactly so, and the place after it.
-#[tactic(auto, using(crate::proofs::Tables::says_table, crate::proofs::Tables::capability_codes_lem, crate::proofs::Tables::capability_count, crate::proofs::Tables::head_fitted, crate::proofs::Tables::present_fitted, crate::proofs::Tables::capability_reads, crate::proofs::Tables::exact_reads, crate::proofs::Tables::length_reads))]
+#[tactic(auto, using(crate::proofs::Layouts::head_length))]
 pub fn read_capability(s: &[u8], at: usize) -> ReadCapability
     requires { (at < 50000) × Bytes s.now }
     ensures { (result.capability ≡ read_capability (drop at s.now)) × (result.next ≡ at + capability_length (drop at s.now)) × (result.exact ≡ exact_capability (drop at s.now)) }
 {
-    let h = read_head(s, at);
-    let kind = h[0];
-    let map = h[3];
-    let codes = capability_codes();
-    let mut f = [0u64; 15];
-    let next = read_present(s, at + 5, map, &codes, &mut f);
-    let set = field_map(&f);
+    let (head, from) = head_layout().read(s, at, ALL);
+    let map = head[3];
+    let (fields, next) = capability_layout().read(s, from, map);
+    let set = field_map(&fields);
     ReadCapability {
-        exact: (kind < 2) & (set == map),
-        capability: capability_of(h, f),
-        next: next,
+        exact: head[0] < 2 && set == map,
+        capability: capability_of(head, fields),
+        next,
     }
 }

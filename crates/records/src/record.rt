@@ -1,45 +1,79 @@
 // Roles, sessions and capabilities as bytes.
 ghost use Rattle.std.specs.Prelude.{◌≡◌, ◌≤◌, length};
 ghost use Rattle.masks.specs.Bytes.{front};
-ghost use Rattle.model.specs.Fields.{kind_of, index_of, bit, field_map, role_fields, write_role, session_fields, write_session, capability_fields, head_fields, write_capability};
-ghost use Rattle.records.specs.Codes.{role_codes, session_codes, head_codes, capability_codes, write_head};
+ghost use Rattle.model.specs.Fields.{kind_of, index_of, field_map, role_codings, role_fields, write_role, session_codings, session_fields, write_session, head_codings, capability_codings, capability_fields, head_fields, write_capability};
+ghost use Rattle.fields.specs.Codes.{codings};
 
-use fields::field::{field_map, present_length, put_all, put_present};
+use fields::coding::Coding::{Map, Mark, Number};
+use fields::field::field_map;
+use fields::layout::{ALL, Layout};
 use model::{Capability, Origin, Role, Session};
 
 // "domain (1), permissions (4), hours (3), places (2), devices (2), appointed (8, as a map)"
-#[tactic(auto, unfolding(crate::specs::Codes::role_codes))]
-pub fn role_codes() -> [u8; 6]
-    ensures { result ≡ role_codes }
+#[tactic(auto, unfolding(model::specs::Fields::role_codings))]
+pub(crate) fn role_layout() -> Layout<6>
+    ensures { codings result.codings ≡ role_codings }
 {
-    [1, 4, 3, 2, 2, 24]
+    Layout {
+        codings: [
+            Number(1), // domain
+            Number(4), // permissions
+            Number(3), // hours
+            Number(2), // places
+            Number(2), // devices
+            Map(8), // appointed
+        ],
+    }
 }
 
 // "user (1), kind (1: 0 role, 1 pass), number (1), hour, place, device (1 each)"
-#[tactic(auto, unfolding(crate::specs::Codes::session_codes))]
-pub fn session_codes() -> [u8; 6]
-    ensures { result ≡ session_codes }
+#[tactic(auto, unfolding(model::specs::Fields::session_codings))]
+pub(crate) fn session_layout() -> Layout<6>
+    ensures { codings result.codings ≡ session_codings }
 {
-    [1, 1, 1, 1, 1, 1]
+    Layout {
+        codings: [Number(1); 6],
+    }
 }
 
 // "kind, number, creator (1 each), then a 2-byte map as a number"
-#[tactic(auto, unfolding(crate::specs::Codes::head_codes))]
-pub fn head_codes() -> [u8; 4]
-    ensures { result ≡ head_codes }
+#[tactic(auto, unfolding(model::specs::Fields::head_codings))]
+pub(crate) fn head_layout() -> Layout<4>
+    ensures { codings result.codings ≡ head_codings }
 {
-    [1, 1, 1, 2]
+    Layout {
+        codings: [Number(1), Number(1), Number(1), Number(2)],
+    }
 }
 
 // "0 permissions (4), 1 roles (4), 2 holders (8, as a map), 3 first (4), 4 last (4), 5 to 10 .. (2 each), 11 hours (3),
 // 12 places (2), 13 devices (2). Bit 14 is the revoked mark and has no field"
-#[tactic(auto, unfolding(crate::specs::Codes::capability_codes))]
-pub fn capability_codes() -> [u8; 15]
-    ensures { result ≡ capability_codes }
+#[tactic(auto, unfolding(model::specs::Fields::capability_codings))]
+pub(crate) fn capability_layout() -> Layout<15>
+    ensures { codings result.codings ≡ capability_codings }
 {
-    [4, 4, 24, 4, 4, 2, 2, 2, 2, 2, 2, 3, 2, 2, 0]
+    Layout {
+        codings: [
+            Number(4), // permissions
+            Number(4), // lent
+            Map(8), // holders
+            Number(4), // first
+            Number(4), // last
+            Number(2), // use limit
+            Number(2), // uses
+            Number(2), // creation limit
+            Number(2), // creations
+            Number(2), // hop limit
+            Number(2), // hops
+            Number(3), // hours
+            Number(2), // places
+            Number(2), // devices
+            Mark, // revoked
+        ],
+    }
 }
 
+// The numbers of the image, which its format fixes and no derive gives, since a variant holds a number.
 fn kind_of(o: Origin) -> u64
     ensures { result ≡ kind_of o }
 {
@@ -58,12 +92,6 @@ fn index_of(o: Origin) -> u64
     }
 }
 
-pub fn bit_of(b: bool) -> u64
-    ensures { result ≡ bit b }
-{
-    if b { 1 } else { 0 }
-}
-
 #[tactic(auto, unfolding(model::specs::Fields::role_fields))]
 fn role_fields(x: Role) -> [u64; 6]
     ensures { result ≡ role_fields x }
@@ -78,26 +106,24 @@ fn role_fields(x: Role) -> [u64; 6]
     ]
 }
 
-// Writes a role at the front of a part; the bytes written.
-#[tactic(auto, using(crate::proofs::Tables::Writes, crate::proofs::Tables::role_writes))]
+// Writes a role at the front of a part; the bytes written. `encoding` is generic over what is written: this is its line for a role, and
+// `put_session` that for a session.
+#[tactic(auto, using(crate::proofs::Layouts::role_written))]
 pub fn put_role(s: &mut [u8], x: Role) -> usize
     requires { length (write_role x) ≤ length s.old }
     ensures { (result ≡ length (write_role x)) × (s.new ≡ front (write_role x) s.old) }
 {
-    let codes = role_codes();
-    let values = role_fields(x);
-    put_all(s, &codes, &values)
+    role_layout().put(s, ALL, &role_fields(x))
 }
 
 #[tactic(auto, unfolding(model::specs::Fields::session_fields))]
 fn session_fields(x: Session) -> [u64; 6]
     ensures { result ≡ session_fields x }
 {
-    let on = x.on;
     [
         x.user as u64,
-        kind_of(on),
-        index_of(on),
+        kind_of(x.on),
+        index_of(x.on),
         x.hour as u64,
         x.place as u64,
         x.device as u64,
@@ -105,17 +131,15 @@ fn session_fields(x: Session) -> [u64; 6]
 }
 
 // Writes a session at the front of a part; the bytes written.
-#[tactic(auto, using(crate::proofs::Tables::Writes, crate::proofs::Tables::session_writes))]
+#[tactic(auto, using(crate::proofs::Layouts::session_written))]
 pub fn put_session(s: &mut [u8], x: Session) -> usize
     requires { length (write_session x) ≤ length s.old }
     ensures { (result ≡ length (write_session x)) × (s.new ≡ front (write_session x) s.old) }
 {
-    let codes = session_codes();
-    let values = session_fields(x);
-    put_all(s, &codes, &values)
+    session_layout().put(s, ALL, &session_fields(x))
 }
 
-#[tactic(auto, unfolding(model::specs::Fields::capability_fields))]
+#[tactic(auto, using(fields::proofs::Codes::bit_from), unfolding(model::specs::Fields::capability_fields))]
 fn capability_fields(c: Capability) -> [u64; 15]
     ensures { result ≡ capability_fields c }
 {
@@ -134,7 +158,7 @@ fn capability_fields(c: Capability) -> [u64; 15]
         c.hours as u64,
         c.places as u64,
         c.devices as u64,
-        bit_of(c.revoked),
+        u64::from(c.revoked),
     ]
 }
 
@@ -143,40 +167,25 @@ fn head_fields(c: Capability, map: u64) -> [u64; 4]
     requires { map ≡ field_map (capability_fields c) }
     ensures { result ≡ head_fields c }
 {
-    let origin = c.origin;
-    [kind_of(origin), index_of(origin), c.creator as u64, map]
-}
-
-// Writes the head of a capability, with the map of its fields; it has 5 bytes.
-#[tactic(auto, using(crate::proofs::Tables::Writes, crate::proofs::Tables::head_writes, crate::proofs::Tables::head_length))]
-fn put_head(s: &mut [u8], c: Capability, map: u64)
-    requires { (map ≡ field_map (capability_fields c)) × (5 ≤ length s.old) }
-    ensures { s.new ≡ front (write_head c) s.old }
-{
-    let codes = head_codes();
-    let values = head_fields(c, map);
-    put_all(s, &codes, &values);
+    [kind_of(c.origin), index_of(c.origin), c.creator as u64, map]
 }
 
 // Writes a capability at the front of a part; the bytes written.
-#[tactic(auto, using(buffers::proofs::Parts::length_tail, crate::proofs::Tables::present_writes, crate::proofs::Tables::capability_size))]
+#[tactic(auto, using(buffers::proofs::Parts::length_tail, crate::proofs::Layouts::head_five, crate::proofs::Layouts::present_size))]
 pub fn put_capability(s: &mut [u8], c: Capability) -> usize
     requires { length (write_capability c) ≤ length s.old }
     ensures { (result ≡ length (write_capability c)) × (s.new ≡ front (write_capability c) s.old) }
 {
     let values = capability_fields(c);
-    let codes = capability_codes();
-    put_head(s, c, field_map(&values));
-    let n = put_present(&mut s[5..], &codes, &values);
-    5 + n
+    let map = field_map(&values);
+    let n = head_layout().put(s, ALL, &head_fields(c, map));
+    n + capability_layout().put(&mut s[n..], map, &values)
 }
 
 // The bytes of a capability, of which none is written.
-#[tactic(auto, using(crate::proofs::Tables::capability_codes_lem, crate::proofs::Tables::capability_count, crate::proofs::Tables::capability_counted, crate::proofs::Tables::says_table))]
+#[tactic(auto, using(crate::proofs::Layouts::head_length, crate::proofs::Layouts::capability_counted))]
 pub fn capability_length(c: Capability) -> usize
     ensures { result ≡ length (write_capability c) }
 {
-    let values = capability_fields(c);
-    let codes = capability_codes();
-    5 + present_length(field_map(&values), &codes)
+    head_layout().length(ALL) + capability_layout().length(field_map(&capability_fields(c)))
 }

@@ -1,4 +1,4 @@
--- Laws of the request words and of their arguments.
+-- Laws of requests by the words of their lines.
 pub mod WordLaws
 pub mod RequestLaws
 pub mod QuickLaws

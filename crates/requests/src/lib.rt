@@ -1,203 +1,184 @@
 // The parser of requests: a line is a word and exactly its arguments.
 #![tactic(auto)]
 
-ghost use Rattle.std.specs.Prelude.{◌≡◌};
-ghost use Rattle.model.specs.State.{context_of};
-ghost use Rattle.model.specs.Lines.{plan_in, create_in, open_in, amend_in, parse as parsed};
-ghost use Rattle.model.specs.Requests.{call_of, parsed_call};
+ghost use Rattle.std.specs.Prelude.{◌≡◌, drop};
+ghost use Rattle.model.specs.Lines.{create_in, open_in, amend_in, forms, by_word, parse as parsed};
+ghost use Rattle.model.specs.Requests.{parsed_call};
 ghost use Rattle.text.specs.Parts.{after};
-ghost use Rattle.requests.specs.Spelling.{asks, arity as arityOf, one_call, two_call, three_call, plain_call};
-ghost use Rattle.requests.specs.declared.words.Word.TheVariants.{Numbers as onlyNumbers};
 
-use crate::words::{One, Plain, Three, Two, Word, word_of};
-use model::{Context, LocalRequest, Parsed, Plan, Request, TreeRequest};
-use text::arguments::{Changing, last_change, read_target};
-use text::numbers::{Number, TwoNumbers, read_number, read_numbers, read_two};
-use text::parts::first_word;
+use model::{Context, LocalRequest, Plan, Request, TreeRequest};
+use text::arguments::{last_change, read_named};
+use text::numbers::{read_number, read_numbers};
+use text::parts::cut_word;
 
 pub mod checks;
-mod words;
 
-fn one_of(w: One, a: u32) -> Request
-    ensures { call_of result ≡ one_call w a }
+// The arguments of create.
+#[tactic(auto, using(crate::proofs::RequestLaws::create_by))]
+fn create_request(rest: &[u8]) -> Option<Request>
+    ensures { parsed_call result ≡ create_in (after 32 rest.now) }
 {
-    match w {
-        One::Clock => Request::Local(LocalRequest::Clock(a)),
-        One::Close => Request::Local(LocalRequest::Close(a)),
-    }
-}
-
-fn two_of(w: Two, a: u32, b: u32) -> Request
-    ensures { call_of result ≡ two_call w a b }
-{
-    match w {
-        Two::Enrol => Request::Local(LocalRequest::Enrol(a, b)),
-        Two::Grant => Request::Local(LocalRequest::Grant(a, b)),
-        Two::Withdraw => Request::Tree(TreeRequest::Withdraw(a, b)),
-        Two::Appoint => Request::Local(LocalRequest::Appoint(a, b)),
-        Two::Dismiss => Request::Local(LocalRequest::Dismiss(a, b)),
-        Two::Revoke => Request::Tree(TreeRequest::Revoke(a, b)),
-        Two::Same => Request::Tree(TreeRequest::Same(a, b)),
-    }
-}
-
-fn three_of(w: Three, a: u32, b: u32, c: u32) -> Request
-    ensures { call_of result ≡ three_call w a b c }
-{
-    match w {
-        Three::Allow => Request::Local(LocalRequest::Allow(a, b, c)),
-        Three::Lend => Request::Local(LocalRequest::Lend(a, b, c)),
-        Three::Hand => Request::Local(LocalRequest::Hand(a, b, c)),
-    }
-}
-
-fn context_of(hour: u32, place: u32, device: u32) -> Context
-    ensures { result ≡ context_of hour place device }
-{
-    Context {
+    let (user, rest) = read_number(rest)?;
+    let (on, rest) = read_named(rest)?;
+    let [
         hour,
         place,
         device,
-    }
-}
-
-// How many numbers follow a word.
-fn arity(w: Plain) -> usize
-    ensures { result ≡ arityOf w }
-{
-    match w {
-        Plain::Single(_) => 1,
-        Plain::Pair(_) => 2,
-        Plain::Triple(_) => 3,
-        Plain::Found => 5,
-        Plain::Check => 5,
-    }
-}
-
-// The request of a word and its numbers.
-fn plain_of(w: Plain, v: [u32; 12]) -> Request
-    ensures { call_of result ≡ plain_call w v }
-{
-    match w {
-        Plain::Single(one) => one_of(one, v[0]),
-        Plain::Pair(two) => two_of(two, v[0], v[1]),
-        Plain::Triple(three) => three_of(three, v[0], v[1], v[2]),
-        Plain::Found => Request::Local(LocalRequest::Found(v[0], v[1], v[2], v[3], v[4])),
-        Plain::Check => {
-            let at = context_of(v[2], v[3], v[4]);
-            Request::Local(LocalRequest::Check(v[0], v[1], at))
-        }
-    }
-}
-
-// A word that only numbers follow.
-#[tactic(auto, using(crate::proofs::WordLaws::arity_small, crate::proofs::WordLaws::plain_wrong, crate::proofs::WordLaws::plain_right))]
-fn plain_request(w: Plain, s: &[u8]) -> Parsed
-    ensures { parsed_call result ≡ asks (onlyNumbers w) (after 32 s.now) }
-{
-    let k = arity(w);
-    let read = read_numbers(s, k);
-    let ok = read.ok;
-    if !ok {
-        return Parsed::NoRequest;
-    }
-    let v = read.v;
-    Parsed::Line(plain_of(w, v))
-}
-
-fn plan_of(v: [u32; 12]) -> Plan
-    ensures { result ≡ plan_in v }
-{
-    Plan {
-        first: v[4],
-        last: v[5],
-        uses: v[6],
-        creations: v[7],
-        hops: v[8],
-        hours: v[9],
-        places: v[10],
-        devices: v[11],
-    }
-}
-
-// The arguments of create.
-#[tactic(auto, using(text::proofs::NumberLaws::number_fits, crate::proofs::RequestLaws::create_none, crate::proofs::RequestLaws::create_wrong, crate::proofs::RequestLaws::create_right))]
-fn create_request(s: &[u8]) -> Parsed
-    ensures { parsed_call result ≡ create_in (after 32 s.now) }
-{
-    let read = read_number(s);
-    let Number::Read(user, n) = read else {
-        return Parsed::NoRequest;
+        first,
+        last,
+        uses,
+        creations,
+        hops,
+        hours,
+        places,
+        devices,
+    ] = read_numbers::<11>(rest)?;
+    let at = Context {
+        hour,
+        place,
+        device,
     };
-    let target = read_target(&s[n..], 12);
-    let ok = target.ok;
-    if !ok {
-        return Parsed::NoRequest;
-    }
-    let v = target.v;
-    let at = context_of(v[1], v[2], v[3]);
-    let plan = plan_of(v);
-    let on = target.on;
-    Parsed::Line(Request::Local(LocalRequest::Create(user, on, at, plan)))
+    let plan = Plan {
+        first,
+        last,
+        uses,
+        creations,
+        hops,
+        hours,
+        places,
+        devices,
+    };
+    Some(Request::Local(LocalRequest::Create(user, on, at, plan)))
 }
 
 // The arguments of open.
-#[tactic(auto, using(text::proofs::NumberLaws::two_fits, crate::proofs::RequestLaws::open_none, crate::proofs::RequestLaws::open_wrong, crate::proofs::RequestLaws::open_right))]
-fn open_request(s: &[u8]) -> Parsed
-    ensures { parsed_call result ≡ open_in (after 32 s.now) }
+#[tactic(auto, using(crate::proofs::RequestLaws::open_by))]
+fn open_request(rest: &[u8]) -> Option<Request>
+    ensures { parsed_call result ≡ open_in (after 32 rest.now) }
 {
-    let read = read_two(s);
-    let TwoNumbers::Both(session, user, n) = read else {
-        return Parsed::NoRequest;
+    let (session, rest) = read_number(rest)?;
+    let (user, rest) = read_number(rest)?;
+    let (on, rest) = read_named(rest)?;
+    let [hour, place, device] = read_numbers::<3>(rest)?;
+    let at = Context {
+        hour,
+        place,
+        device,
     };
-    let target = read_target(&s[n..], 4);
-    let ok = target.ok;
-    if !ok {
-        return Parsed::NoRequest;
-    }
-    let v = target.v;
-    let at = context_of(v[1], v[2], v[3]);
-    let on = target.on;
-    Parsed::Line(Request::Local(LocalRequest::Open(session, user, on, at)))
+    Some(Request::Local(LocalRequest::Open(session, user, on, at)))
 }
 
 // The arguments of amend.
-#[tactic(auto, using(text::proofs::NumberLaws::two_fits, crate::proofs::RequestLaws::amend_none, crate::proofs::RequestLaws::amend_wrong, crate::proofs::RequestLaws::amend_right))]
-fn amend_request(s: &[u8]) -> Parsed
-    ensures { parsed_call result ≡ amend_in (after 32 s.now) }
+fn amend_request(rest: &[u8]) -> Option<Request>
+    ensures { parsed_call result ≡ amend_in (after 32 rest.now) }
 {
-    let read = read_two(s);
-    let TwoNumbers::Both(user, capability, n) = read else {
-        return Parsed::NoRequest;
-    };
-    let changing = last_change(&s[n..]);
-    let Changing::By(change) = changing else {
-        return Parsed::NoRequest;
-    };
-    Parsed::Line(Request::Tree(TreeRequest::Amend(user, capability, change)))
+    let (user, rest) = read_number(rest)?;
+    let (capability, rest) = read_number(rest)?;
+    let change = last_change(rest)?;
+    Some(Request::Tree(TreeRequest::Amend(user, capability, change)))
 }
 
-// The request of a word, by what follows it in its line.
-#[tactic(auto, using(crate::proofs::WordLaws::asks_plain, crate::proofs::WordLaws::asks_create, crate::proofs::WordLaws::asks_open, crate::proofs::WordLaws::asks_amend, crate::proofs::WordLaws::asks_none))]
-fn request_of(w: Word, s: &[u8]) -> Parsed
-    ensures { parsed_call result ≡ asks w (after 32 s.now) }
+// Words are tried one after another: with a `match` on byte strings the proof of the last arm, that no word fits, did not close.
+// The request of the words from open to same.
+#[tactic(auto, using(crate::proofs::WordLaws::hit), unfolding(model::specs::Lines::forms))]
+fn session_request(word: &[u8], rest: &[u8]) -> Option<Request>
+    ensures { parsed_call result ≡ by_word word.now (after 32 rest.now) (drop 11 forms) }
 {
-    match w {
-        Word::Numbers(plain) => plain_request(plain, s),
-        Word::Create => create_request(s),
-        Word::Open => open_request(s),
-        Word::Amend => amend_request(s),
-        Word::NoWord => Parsed::NoRequest,
+    if word == b"open".as_slice() {
+        return open_request(rest);
     }
+    if word == b"check".as_slice() {
+        let [session, permission, hour, place, device] = read_numbers::<5>(rest)?;
+        let at = Context {
+            hour,
+            place,
+            device,
+        };
+        return Some(Request::Local(LocalRequest::Check(session, permission, at)));
+    }
+    if word == b"amend".as_slice() {
+        return amend_request(rest);
+    }
+    if word == b"revoke".as_slice() {
+        let [user, capability] = read_numbers::<2>(rest)?;
+        return Some(Request::Tree(TreeRequest::Revoke(user, capability)));
+    }
+    if word == b"close".as_slice() {
+        let [session] = read_numbers::<1>(rest)?;
+        return Some(Request::Local(LocalRequest::Close(session)));
+    }
+    if word == b"same".as_slice() {
+        let [first, second] = read_numbers::<2>(rest)?;
+        return Some(Request::Tree(TreeRequest::Same(first, second)));
+    }
+    None
+}
+
+// The request of the words from clock to hand.
+#[tactic(auto, using(crate::proofs::WordLaws::hit), unfolding(model::specs::Lines::forms))]
+fn delegation_request(word: &[u8], rest: &[u8]) -> Option<Request>
+    ensures { parsed_call result ≡ by_word word.now (after 32 rest.now) (drop 6 forms) }
+{
+    if word == b"clock".as_slice() {
+        let [tick] = read_numbers::<1>(rest)?;
+        return Some(Request::Local(LocalRequest::Clock(tick)));
+    }
+    if word == b"create".as_slice() {
+        return create_request(rest);
+    }
+    if word == b"allow".as_slice() {
+        let [user, capability, permissions] = read_numbers::<3>(rest)?;
+        return Some(Request::Local(LocalRequest::Allow(user, capability, permissions)));
+    }
+    if word == b"lend".as_slice() {
+        let [user, capability, roles] = read_numbers::<3>(rest)?;
+        return Some(Request::Local(LocalRequest::Lend(user, capability, roles)));
+    }
+    if word == b"hand".as_slice() {
+        let [user, receiver, capability] = read_numbers::<3>(rest)?;
+        return Some(Request::Local(LocalRequest::Hand(user, receiver, capability)));
+    }
+    session_request(word, rest)
+}
+
+// The request of a word and the rest of its line: "Request words are compared byte by byte."
+#[tactic(auto, using(crate::proofs::WordLaws::hit), unfolding(model::specs::Lines::forms))]
+fn request_of(word: &[u8], rest: &[u8]) -> Option<Request>
+    ensures { parsed_call result ≡ by_word word.now (after 32 rest.now) forms }
+{
+    if word == b"enrol".as_slice() {
+        let [user, domain] = read_numbers::<2>(rest)?;
+        return Some(Request::Local(LocalRequest::Enrol(user, domain)));
+    }
+    if word == b"found".as_slice() {
+        let [role, domain, hours, places, devices] = read_numbers::<5>(rest)?;
+        let found = LocalRequest::Found(role, domain, hours, places, devices);
+        return Some(Request::Local(found));
+    }
+    if word == b"grant".as_slice() {
+        let [role, permission] = read_numbers::<2>(rest)?;
+        return Some(Request::Local(LocalRequest::Grant(role, permission)));
+    }
+    if word == b"withdraw".as_slice() {
+        let [role, permission] = read_numbers::<2>(rest)?;
+        return Some(Request::Tree(TreeRequest::Withdraw(role, permission)));
+    }
+    if word == b"appoint".as_slice() {
+        let [user, role] = read_numbers::<2>(rest)?;
+        return Some(Request::Local(LocalRequest::Appoint(user, role)));
+    }
+    if word == b"dismiss".as_slice() {
+        let [user, role] = read_numbers::<2>(rest)?;
+        return Some(Request::Local(LocalRequest::Dismiss(user, role)));
+    }
+    delegation_request(word, rest)
 }
 
 // The request of a line without its line feed, or that it is none.
-#[tactic(auto, using(crate::proofs::WordLaws::word_within))]
-pub fn parse(line: &[u8]) -> Parsed
+#[tactic(auto, unfolding(model::specs::Lines::parse))]
+pub fn parse(line: &[u8]) -> Option<Request>
     ensures { parsed_call result ≡ parsed line.now }
 {
-    let w = first_word(line);
-    let n = w.len();
-    let word = word_of(w);
-    request_of(word, &line[n..])
+    let (word, rest) = cut_word(line);
+    request_of(word, rest)
 }

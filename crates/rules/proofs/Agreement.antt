@@ -19,22 +19,24 @@ use Rattle.model.specs.declared.Register.{Register}
 use Rattle.model.specs.State.{party, there, Terms, terms, claims, below, exists, opened_in, admitted, in_context, role_at, capability_at, origin_at, session_at, blank_role, blank_capability, blank_session}
 use Rattle.model.specs.Lineage.{children}
 use Rattle.model.specs.Rules.{is_origin, is_user, is_domain, bits, user_keeps, role_blank, same_domain, role_keeps, capability_blank, range_tests, in_range, all_founded, earlier, own_keeps, capability_keeps, place_keeps, session_blank, session_keeps, well_formed}
+use Rattle.origins.specs.declared.authority.RoleColumns.{RoleColumns}
 use Rattle.origins.specs.Authority.{Columns}
-use Rattle.origins.specs.Numbers.{Placed}
-use Rattle.origins.specs.Terms.{party_in, slot_terms, column_terms}
-use Rattle.origins.proofs.Laws.{placed_party, placed_terms, placed_admits}
+use Rattle.origins.specs.declared.standing.Party.{Party as PartyRead}
+use Rattle.origins.specs.Standing.{standing}
+use Rattle.origins.specs.Terms.{slot_terms, column_terms}
 use Rattle.entries.specs.Limits.{role_keeps_with, place_with, session_keeps_with}
-use Rattle.rules.specs.Columns.{masked, is_founded, in_domain, BlankFrom}
+use Rattle.entries.specs.declared.capability.Known.{Known}
+use Rattle.rules.specs.Columns.{masked, is_founded, in_domain, BlankFrom, KnownOf}
+use Rattle.rules.specs.Parties.{PartyAt}
 use Rattle.rules.proofs.Laws.{all_below_lem, all_rest, each_under, within-masked}
 
 -- ---- origins
 
-there-exists : (roles : List Role) (cs : List Capability) (count : ℕ) (o : Origin) (i j : ℕ) → T (is_origin o) → Placed o i j
-    → there count (party_in o (role_at roles i) (capability_at cs j)) ≡ exists roles count o
+pub there-exists : (r : Register) (o : Origin) {p : PartyRead} → PartyAt r o p → T (is_origin o) → there r.count (standing p) ≡ exists r.roles r.count o
 unfolding exists
-there-exists roles cs count o i j ranged e = ap (there count) (placed_party roles cs o i j ranged e) ∙ same o
+there-exists r o at ranged = ap (there r.count) (at.stands ranged) ∙ same o
   where
-    same : (x : Origin) → there count (party roles cs x) ≡ exists roles count x
+    same : (x : Origin) → there r.count (party r.roles r.capabilities x) ≡ exists r.roles r.count x
     same (ofRole k) = refl
     same (ofCapability n) = refl
 
@@ -66,60 +68,61 @@ role_agrees enrolled domains users k x column =
 
 -- ---- a capability
 
-pub place_agrees : (enrolled : ℕ) (roles : List Role) (count : ℕ) (cs : List Capability) (n i j founded made : ℕ) (column : List ℕ) (known : Bool) (u : Terms)
-    → Placed (origin_at cs n) i j
-    → founded ≡ masked (is_founded roles) 32
-    → Columns column roles
-    → known ≡ there count (party_in (origin_at cs n) (role_at roles i) (capability_at cs j))
-    → u ≡ column_terms column (origin_at cs n) (role_at roles i) (capability_at cs j)
-    → made ≡ children count cs n
-    → place_with enrolled founded count n known u made (capability_at cs n) ≡ place_keeps enrolled roles count cs n (capability_at cs n)
+pub place_agrees : (r : Register) (k : Known) (n made : ℕ) (column : RoleColumns) (p : PartyRead) (known : Bool) (u : Terms)
+    → PartyAt r (origin_at r.capabilities n) p
+    → KnownOf k r
+    → Columns column r.roles
+    → known ≡ there r.count (standing p)
+    → u ≡ column_terms column p.origin p.role.now p.capability.now
+    → made ≡ children r.count r.capabilities n
+    → place_with k.enrolled k.founded k.count n known u made (capability_at r.capabilities n) ≡ place_keeps r.enrolled r.roles r.count r.capabilities n (capability_at r.capabilities n)
 unfolding place_with place_keeps capability_keeps in_range all_founded
-place_agrees enrolled roles count cs n i j founded made column known u placed at-founded at-column at-known at-u at-made =
-    ap
-    (λ (b : Bool). cond (ltb n count) b (capability_blank c))
-    (each_under (in_range c ∷ []) (rest (within c.lent founded) known u made) (rest (all_founded roles c.lent) (exists roles count c.origin) (terms roles cs c.origin) (children count cs n)) agree)
+place_agrees r k n made column p known u at at-k at-column at-known at-u at-made =
+    rw (at-k.enrolled, at-k.count)
+    (ap
+    (λ (b : Bool). cond (ltb n r.count) b (capability_blank c))
+    (each_under (in_range c ∷ []) (rest (within c.lent k.founded) known u made) (rest (all_founded r.roles c.lent) (exists r.roles r.count c.origin) (terms r.roles r.capabilities c.origin) (children r.count r.capabilities n)) agree))
   where
     c : Capability
-    c = capability_at cs n
+    c = capability_at r.capabilities n
 
     rest : Bool → Bool → Terms → ℕ → List Bool
     rest a b t m =
-        a ∷ b ∷ earlier n c.origin ∷ below (claims c) t ∷ eqb c.creations m ∷ leb c.creations c.creation_limit ∷ own_keeps enrolled c ∷ []
+        a ∷ b ∷ earlier n c.origin ∷ below (claims c) t ∷ eqb c.creations m ∷ leb c.creations c.creation_limit ∷ own_keeps r.enrolled c ∷ []
 
     agree : Each (in_range c ∷ [])
-        → each (rest (within c.lent founded) known u made) ≡ each (rest (all_founded roles c.lent) (exists roles count c.origin) (terms roles cs c.origin) (children count cs n))
+        → each (rest (within c.lent k.founded) known u made) ≡ each (rest (all_founded r.roles c.lent) (exists r.roles r.count c.origin) (terms r.roles r.capabilities c.origin) (children r.count r.capabilities n))
     agree h =
         let named : T (is_origin c.origin) = each_at (range_tests c) h.0 0 in
         ap₂ (λ (a b : Bool). each (rest a b u made))
-        (ap (within c.lent) at-founded ∙ within-masked (is_founded roles) 32 c.lent (ltb→lt _ _ (each_at (range_tests c) h.0 3)))
-        (at-known ∙ there-exists roles cs count c.origin i j named placed)
-        ∙ ap₂ (λ (t : Terms) (m : ℕ). each (rest (all_founded roles c.lent) (exists roles count c.origin) t m))
-        (at-u ∙ placed_terms column roles at-column cs c.origin _ _ named placed)
+        (ap (within c.lent) at-k.founded ∙ within-masked (is_founded r.roles) 32 c.lent (ltb→lt _ _ (each_at (range_tests c) h.0 3)))
+        (at-known ∙ there-exists r c.origin at named)
+        ∙ ap₂ (λ (t : Terms) (m : ℕ). each (rest (all_founded r.roles c.lent) (exists r.roles r.count c.origin) t m))
+        (at-u ∙ at.allows column named at-column)
         at-made
 
 -- ---- a session
 
-pub session_agrees : (enrolled : ℕ) (roles : List Role) (count : ℕ) (cs : List Capability) (n i j grants lendable : ℕ) (s : Session) (known : Bool) (u : Terms)
-    → Placed s.on i j
-    → known ≡ there count (party_in s.on (role_at roles i) (capability_at cs j))
-    → u ≡ slot_terms s.on (role_at roles i) (capability_at cs j) grants lendable
-    → session_keeps_with enrolled known u s ≡ session_keeps enrolled roles count cs n s
+pub session_agrees : (r : Register) (n grants lendable : ℕ) (s : Session) (p : PartyRead) (known : Bool) (u : Terms)
+    → PartyAt r s.on p
+    → known ≡ there r.count (standing p)
+    → u ≡ slot_terms p.origin p.role.now p.capability.now grants lendable
+    → session_keeps_with r.enrolled known u s ≡ session_keeps r.enrolled r.roles r.count r.capabilities n s
 unfolding session_keeps_with session_keeps
-session_agrees enrolled roles count cs n i j grants lendable s known u placed at-known at-u =
-    ap (λ (b : Bool). cond s.active b (session_blank s)) (each_under before (rest known u) (rest (exists roles count s.on) (terms roles cs s.on)) agree)
+session_agrees r n grants lendable s p known u at at-known at-u =
+    ap (λ (b : Bool). cond s.active b (session_blank s)) (each_under before (rest known u) (rest (exists r.roles r.count s.on) (terms r.roles r.capabilities s.on)) agree)
   where
     before : List Bool
-    before = is_user s.user ∷ is_origin s.on ∷ in_context (opened_in s) ∷ has enrolled s.user ∷ []
+    before = is_user s.user ∷ is_origin s.on ∷ in_context (opened_in s) ∷ has r.enrolled s.user ∷ []
 
     rest : Bool → Terms → List Bool
     rest a t = a ∷ admitted t (opened_in s) ∷ []
 
-    agree : Each before → each (rest known u) ≡ each (rest (exists roles count s.on) (terms roles cs s.on))
+    agree : Each before → each (rest known u) ≡ each (rest (exists r.roles r.count s.on) (terms r.roles r.capabilities s.on))
     agree h =
         ap₂ (λ (a b : Bool). each (a ∷ b ∷ []))
-        (at-known ∙ there-exists roles cs count s.on i j h.1.0 placed)
-        (ap (λ (t : Terms). admitted t (opened_in s)) at-u ∙ placed_admits roles cs s.on _ _ grants lendable (opened_in s) h.1.0 placed)
+        (at-known ∙ there-exists r s.on at h.1.0)
+        (ap (λ (t : Terms). admitted t (opened_in s)) at-u ∙ at.admits grants lendable (opened_in s) h.1.0)
 
 -- ---- the register
 

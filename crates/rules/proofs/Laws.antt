@@ -36,6 +36,10 @@ pub all_more : (n : ℕ) (p : ℕ → Bool) {x y : Bool} → x ≡ all_below n p
 unfolding all_below
 all_more n p e f = rw add-one (f ∙ ap (λ (b : Bool). b && p n) e)
 
+-- a loop that ended
+pub all_done : (n m : ℕ) (p : ℕ → Bool) {x : Bool} → x ≡ all_below n p → n ≤ m → m ≤ n → x ≡ all_below m p
+all_done n m p e l g = e ∙ ap (λ (k : ℕ). all_below k p) {x = n} {y = m} (omega arith)
+
 -- the numbers from n on are known to pass
 pub all_rest : (n m : ℕ) (p : ℕ → Bool) → n ≤ m → ((k : ℕ) → n ≤ k → k < m → p k ≡ true) → all_below n p ≡ all_below m p
 all_rest n m p l rest =

@@ -7,6 +7,7 @@ use Rattle.model.specs.declared.Origin.TheVariants.{Role as ofRole, Capability a
 use Rattle.model.specs.declared.Role.{Role}
 use Rattle.model.specs.declared.Capability.{Capability}
 use Rattle.model.specs.declared.Register.{Register}
+use Rattle.entries.specs.declared.capability.Known.{Known}
 use Rattle.model.specs.State.{role_at, origin_at, capability_at, blank_capability}
 
 -- the mask of the numbers below n that pass
@@ -16,6 +17,12 @@ masked p (suc n) = bit_or (masked p n) (cond (p n) (2 ^ n) 0)
 
 abbrev pub is_founded : List Role → ℕ → Bool
 is_founded roles k = (role_at roles k).founded
+
+-- what the rules of the register's capabilities go by
+pub record KnownOf (k : Known) (r : Register) : Type 0 where
+  pub enrolled : k.enrolled ≡ r.enrolled
+  pub founded : k.founded ≡ masked (is_founded r.roles) 32
+  pub count : k.count ≡ r.count
 
 -- user u is of domain d
 abbrev pub in_domain : List ℕ → ℕ → ℕ → Bool

@@ -16,15 +16,12 @@ fn single(on: bool, k: usize) -> u64
 
 // The roles that are founded.
 #[tactic(auto, using(crate::proofs::Laws::masked_more), unfolding(crate::specs::Columns::masked))]
-pub fn founded_roles(roles: [Role; 32]) -> u64
-    ensures { result ≡ masked (is_founded roles) 32 }
+pub fn founded_roles(roles: &[Role; 32]) -> u64
+    ensures { result ≡ masked (is_founded roles.now) 32 }
 {
-    let mut mask: u64 = 0;
-    let mut i: usize = 0;
-    while i < 32 {
-        let role = roles[i];
-        mask = mask | single(role.founded, i);
-        i = i + 1;
+    let mut mask = 0;
+    for (k, role) in roles.iter().enumerate() {
+        mask |= single(role.founded, k);
     }
     mask
 }
@@ -34,12 +31,9 @@ pub fn founded_roles(roles: [Role; 32]) -> u64
 pub fn domain_users(domains: &[u8; 64]) -> [u64; 8]
     ensures { (d : ℕ) → d < 8 → get_or result d 0 ≡ masked (in_domain domains.now d) 64 }
 {
-    let mut table = [0u64; 8];
-    let mut i: usize = 0;
-    while i < 64 {
-        let d = (domains[i] % 8) as usize;
-        table[d] = table[d] | single(domains[i] < 8, i);
-        i = i + 1;
+    let mut table = [0; 8];
+    for (u, domain) in domains.iter().enumerate() {
+        table[(*domain % 8) as usize] |= single(*domain < 8, u);
     }
     table
 }
@@ -49,11 +43,8 @@ pub fn bump(table: &mut [u16; 256], o: Origin)
     requires { get_or table.old (capability_held o) 0 < 256 }
     ensures { table.new ≡ bumped table.old o }
 {
-    match o {
-        Origin::Role(_) => {}
-        Origin::Capability(k) => {
-            table[k as usize] = table[k as usize] + 1;
-        }
+    if let Origin::Capability(k) = o {
+        table[usize::from(k)] += 1;
     }
 }
 
@@ -61,5 +52,5 @@ pub fn bump(table: &mut [u16; 256], o: Origin)
 pub fn places(count: u16) -> usize
     ensures { (result ≤ 256) × (count ≤ 256 → result ≡ count) }
 {
-    if count <= 256 { count as usize } else { 256 }
+    usize::from(count.min(256))
 }

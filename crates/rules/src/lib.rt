@@ -3,6 +3,7 @@
 
 mod capability;
 mod columns;
+mod parties;
 mod roles;
 mod session;
 
@@ -22,12 +23,11 @@ fn keeps_below(r: Register, bound: usize) -> bool
     requires { (bound ≤ 256) × (r.count ≤ 256 → BlankFrom r bound) }
     ensures { result ≡ well_formed r }
 {
-    let domains = r.domains;
-    let users = users_keep(r.enrolled, &domains);
-    let all = r.roles;
-    let roles = roles_keep(r.enrolled, &domains, all);
-    let capabilities = capabilities_keep(r, bound);
-    let sessions = sessions_keep(r);
+    let users = users_keep(r.enrolled, &r.domains);
+    let roles = roles_keep(r.enrolled, &r.domains, &r.roles);
+    let capabilities = capabilities_keep(&r, bound);
+    let sessions = sessions_keep(&r);
+    // `&` and not `&&`: the proof has one path, and did not close with one for each test.
     (r.count <= 256) & users & roles & capabilities & sessions
 }
 

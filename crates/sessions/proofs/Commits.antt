@@ -4,7 +4,7 @@ use mathlib.Core.Bool.{Bool, false, cond}
 use mathlib.Core.List.{List, [], ◌∷◌}
 use Prim.Native.Nat.{ℕ, ◌%◌, ◌<◌}
 use lib.Dec.{T, ltb, ltb→lt}
-use lib.ListN.{set}
+use lib.ListN.{drop, set}
 use lib.Seq.{set-get_or}
 use Rattle.masks.specs.Tests.{each}
 use Rattle.masks.proofs.Truth.{each_at, each→}
@@ -28,14 +28,18 @@ use Rattle.model.specs.Requests.{local_call, named_origin}
 use Rattle.model.proofs.Rules.{formed→}
 use Rattle.model.proofs.RuleFacts.{origin←}
 use Rattle.model.proofs.Settling.{passed, settle_ranged, settle_same}
+use Rattle.slots.specs.declared.Slots.{Slots}
+use Rattle.slots.specs.Guards.{first_number}
+use Rattle.slots.proofs.GuardLaws.{ranged_same}
 use Rattle.slots.specs.Slots.{Places, look, lifted, with_session_slots}
+use Rattle.origins.specs.declared.authority.RoleColumns.{RoleColumns}
 use Rattle.origins.specs.Authority.{Columns, granted_by, lendable_by}
-use Rattle.origins.specs.Numbers.{role_held, capability_held}
+use Rattle.origins.specs.Numbers.{role_held, capability_held, named_in}
 use Rattle.origins.specs.Terms.{party_in, slot_terms}
-use Rattle.origins.proofs.Laws.{in_range_lem, held_placed, placed_party, placed_terms}
+use Rattle.origins.proofs.Laws.{in_range_lem, named_exact, held_placed, placed_party, placed_terms}
 use Rattle.slots.specs.Terms.{OnPlaced, used_in}
 use Rattle.slots.proofs.SlotLaws.{put_same, put-session, ranged_commit}
-use Rattle.sessions.specs.Sessions.{close_decision, permits_in, check_answer, check_decision, opening_on, open_decision}
+use Rattle.sessions.specs.Sessions.{close_decision, permits_in, check_answer, check_decision, opening_on, opening_tests, open_decision}
 
 -- ---- close
 
@@ -58,7 +62,7 @@ unlent tick y (ofRole k) x c grants lendable user q at = refl
 unlent tick y (ofCapability n) x c grants lendable user q at = refl
 
 -- what an origin permits, from its element
-origin_permits : (r : Register) (p : Places) (columns : List ℕ) (s : Session) (q : ℕ) (at : Context) → Columns columns r.roles → OriginInRange s.on → OnPlaced p s.on
+origin_permits : (r : Register) (p : Places) (columns : RoleColumns) (s : Session) (q : ℕ) (at : Context) → Columns columns r.roles → OriginInRange s.on → OnPlaced p s.on
     → permits_in r.clock s (look r p).role (look r p).capability columns q at ≡ permits r s.on s.user q at
 unfolding permits_in permits
 origin_permits r p columns s q at h l e =
@@ -71,7 +75,7 @@ origin_permits r p columns s q at h l e =
     (placed_terms columns r.roles h r.capabilities s.on p.role p.capability ranged e)
 
 -- the answer to a check, by the session and what it is on, read from the register
-pub check_answered : (r : Register) (p : Places) (columns : List ℕ) (s q : ℕ) (at : Context) → T (well_formed r) → Columns columns r.roles
+pub check_answered : (r : Register) (p : Places) (columns : RoleColumns) (s q : ℕ) (at : Context) → T (well_formed r) → Columns columns r.roles
     → p.session ≡ s % 64 → OnPlaced p (session_at r.sessions (s % 64)).on
     → record { answer = check_answer r.clock (session_at r.sessions p.session) (role_at r.roles p.role) (capability_at r.capabilities p.capability) columns s q at; after = r }
     ≡ settled r (check s q at)
@@ -89,7 +93,7 @@ check_answered r p columns s q at w h e o =
     ))
 
 -- the same, where o is the answer and the places are those that the session's own numbers give
-pub check_done : (r : Register) (columns : List ℕ) (n q : ℕ) (at : Context) (i j : ℕ) (o : Outcome) → T (well_formed r) → Columns columns r.roles
+pub check_done : (r : Register) (columns : RoleColumns) (n q : ℕ) (at : Context) (i j : ℕ) (o : Outcome) → T (well_formed r) → Columns columns r.roles
     → (let on = (session_at r.sessions (n % 64)).on in (i ≡ role_held on) × (j ≡ capability_held on)) → j < 256
     → o ≡ check_answer r.clock (session_at r.sessions (n % 64)) (role_at r.roles (i % 32)) (capability_at r.capabilities j) columns n q at
     → record { answer = o; after = r } ≡ settled r (check n q at)
@@ -97,7 +101,7 @@ check_done r columns n q at i j o k column held few e =
     ap (λ (z : Outcome). record { answer = z; after = r }) e
     ∙ check_answered r (record { user = 0; role = i % 32; parent = 0; capability = j; session = n % 64 }) columns n q at k column refl (held_placed (session_at r.sessions (n % 64)).on i j held.0 held.1 few)
 
-pub check_commit : (r : Register) (p : Places) (columns : List ℕ) (s q : ℕ) (at : Context) → T (well_formed r) → Columns columns r.roles
+pub check_commit : (r : Register) (p : Places) (columns : RoleColumns) (s q : ℕ) (at : Context) → T (well_formed r) → Columns columns r.roles
     → p.session ≡ s % 64 → OnPlaced p (session_at r.sessions (s % 64)).on
     → lifted r p (check_decision (look r p) columns s q at) ≡ settled r (check s q at)
 check_commit r p columns s q at w h e o =
@@ -105,6 +109,13 @@ check_commit r p columns s q at w h e o =
     ∙ check_answered r p columns s q at w h e o
 
 -- ---- open
+
+-- the tests with the origin as it is named
+pub open_agrees : (v : Slots) (s user : ℕ) (on : Named) (at : Context) {k : ℕ} {o : Origin} → k ≡ first_number (opening_tests v o s user on at) → o ≡ named_in on
+    → k ≡ first_number (opening_on v (named_origin on) s user at).guards
+open_agrees v s user on at e m =
+    let ts : List Bool = is_session s ∷ is_user user ∷ is_origin (named_origin on) ∷ in_context at ∷ [] in
+    e ∙ ranged_same 2 ts _ _ (λ h. ap (λ (x : Origin). drop 1 (opening_on v x s user at).guards) (m ∙ named_exact on (each_at ts h 2)))
 
 -- a session made from numbers in their ranges
 pub session_ranged : (user : ℕ) (at : Context) (o : Origin) → T (is_user user) → T (in_context at)

@@ -1,15 +1,14 @@
 -- Intermediate: the code's own terms, proved to come to the definitions of `model`.
 -- The first of a list of guards that applies, as a number; 0 if none does.
-use Rattle.std.specs.Prelude.{Bool, true, cond, ◌&&◌, List, [], ◌∷◌, ℕ, suc, ltb}
+use Rattle.std.specs.Prelude.{Bool, true, cond, ◌&&◌, List, [], ◌∷◌, ℕ, suc, ltb, ⊤, Result, Ok, Err}
 use Rattle.model.specs.Rulings.{Guard, applies, number}
 use Rattle.model.specs.Requests.{refusal_number}
-use Rattle.slots.specs.declared.guards.Guarded.{Guarded}
-use Rattle.slots.specs.declared.guards.Guarded.TheVariants.{Pass, Refuse}
+use Rattle.model.specs.declared.Refusal.{Refusal}
 
 -- what the guards of a call say: no refusal, or the document's number of one
-abbrev pub guarded : Guarded → ℕ
-guarded Pass = 0
-guarded (Refuse why) = refusal_number why
+abbrev pub guarded : Result ⊤ Refusal → ℕ
+guarded (Ok u) = 0
+guarded (Err why) = refusal_number why
 
 unfoldable pub first_number : List Guard → ℕ
 first_number [] = 0

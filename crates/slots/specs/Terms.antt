@@ -1,6 +1,5 @@
 -- Intermediate: the code's own terms, proved to come to the definitions of `model`.
 -- What an origin allows, from the elements read, and counts that rise.
-use Rattle.std.specs.Prelude.{List, ℕ}
 use Rattle.model.specs.declared.Origin.{Origin}
 use Rattle.model.specs.declared.Origin.TheVariants.{Role as ofRole, Capability as ofCapability}
 use Rattle.model.specs.declared.Capability.{Capability}
@@ -8,6 +7,7 @@ use Rattle.model.specs.State.{Terms}
 use Rattle.model.specs.Setters.{with_uses, with_creations}
 use Rattle.model.specs.Delegation.{created_once}
 use Rattle.model.specs.Sessions.{used_once}
+use Rattle.origins.specs.declared.authority.RoleColumns.{RoleColumns}
 use Rattle.origins.specs.Numbers.{Placed}
 use Rattle.origins.specs.Terms.{column_terms}
 use Rattle.slots.specs.declared.Slots.{Slots}
@@ -41,5 +41,5 @@ abbrev pub OnPlaced : Places → Origin → Type 0
 OnPlaced p o = Placed o p.role p.capability
 
 -- what the origin allows, by the columns of the roles
-abbrev pub origin_terms : Slots → List ℕ → Origin → Terms
+abbrev pub origin_terms : Slots → RoleColumns → Origin → Terms
 origin_terms v columns o = column_terms columns o v.role v.parent

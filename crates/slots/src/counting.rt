@@ -1,4 +1,5 @@
-// One use or one creation more, where an origin is a capability.
+// One use or one creation more, where an origin is a capability. Two functions: over both fields one would take a closure that reads
+// the field and one that writes it, which is no plainer.
 ghost use Rattle.std.specs.Prelude.{◌≡◌};
 ghost use Rattle.slots.specs.Terms.{used_to, created_to};
 
@@ -10,12 +11,11 @@ pub fn used_in(o: Origin, c: Capability) -> Capability
     ensures { result ≡ used_to o c }
 {
     match o {
-        Origin::Role(k) => c,
-        Origin::Capability(n) => {
-            let mut d = c;
-            d.uses = raised(c.uses, c.use_limit);
-            d
-        }
+        Origin::Role(_) => c,
+        Origin::Capability(_) => Capability {
+            uses: raised(c.uses, c.use_limit),
+            ..c
+        },
     }
 }
 
@@ -24,11 +24,10 @@ pub fn created_in(o: Origin, c: Capability) -> Capability
     ensures { result ≡ created_to o c }
 {
     match o {
-        Origin::Role(k) => c,
-        Origin::Capability(n) => {
-            let mut d = c;
-            d.creations = raised(c.creations, c.creation_limit);
-            d
-        }
+        Origin::Role(_) => c,
+        Origin::Capability(_) => Capability {
+            creations: raised(c.creations, c.creation_limit),
+            ..c
+        },
     }
 }

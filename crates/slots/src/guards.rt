@@ -1,37 +1,19 @@
-// The tests of a call, from the document's last to its first, so that the first that applies stays.
-ghost use Rattle.std.specs.Prelude.{◌≡◌, cond, List, ℕ, T};
-ghost use Rattle.model.specs.Rulings.{Guard, Clear, verdict};
-ghost use Rattle.model.specs.Requests.{refusal_number, outcome_of};
-ghost use Rattle.slots.specs.Guards.{guarded, first_number, numbered, raised_of};
+// The tests of a call, in the document's order: the first that does not hold refuses.
+ghost use Rattle.std.specs.Prelude.{◌≡◌, cond};
+ghost use Rattle.model.specs.Requests.{refusal_number};
+ghost use Rattle.slots.specs.Guards.{guarded, raised_of};
 
-use model::{Answer, Refusal};
+use model::Refusal;
 
-#[derive(Clone, Copy)]
-pub enum Guarded {
-    Pass,
-    Refuse(Refusal),
-}
-
-// The refusal if the test applies, else what the later tests say.
-pub fn first(applies: bool, why: Refusal, later: Guarded) -> Guarded
-    ensures { guarded result ≡ cond applies (refusal_number why) (guarded later) }
+// Passes where the test holds, and refuses where it does not.
+pub fn ensure(holds: bool, why: Refusal) -> Result<(), Refusal>
+    ensures { guarded result ≡ cond holds 0 (refusal_number why) }
 {
-    if applies { Guarded::Refuse(why) } else { later }
-}
-
-// The answer of a call that changes nothing, whatever its guards; the value need be the call's only where none applies.
-#[tactic(auto, using(crate::proofs::GuardLaws::pass_clear, crate::proofs::GuardLaws::verdict_refused, crate::proofs::GuardLaws::verdict_passed))]
-pub fn answered(k: Guarded, value: u32) -> Answer
-    ensures { (gs : List Guard) (n : ℕ) → T (numbered gs) → guarded k ≡ first_number gs → (Clear gs → value ≡ n) → outcome_of result ≡ verdict gs n }
-{
-    match k {
-        Guarded::Refuse(why) => Answer::Refused(why),
-        Guarded::Pass => Answer::Value(value),
-    }
+    if holds { Ok(()) } else { Err(why) }
 }
 
 // One more, below a limit.
-#[tactic(auto, using(masks::proofs::Truth::cond_true, masks::proofs::Truth::cond_false), unfolding(crate::specs::Guards::raised_of))]
+#[tactic(auto, unfolding(crate::specs::Guards::raised_of))]
 pub fn raised(x: u16, limit: u16) -> u16
     ensures { result ≡ raised_of x limit }
 {

@@ -11,8 +11,7 @@ ghost use Rattle.slots.specs.declared.Slots.{Slots as SlotsHeld};
 ghost use Rattle.slots.specs.Guards.{guarded, first_number, numbered};
 ghost use Rattle.slots.specs.Slots.{ruled_of};
 
-use crate::guards::Guarded;
-use model::{Answer, Capability, Role, Session};
+use model::{Answer, Capability, Refusal, Role, Session};
 
 // The elements that a call names; an element that it does not name is written back as it was.
 #[derive(Clone, Copy)]
@@ -37,16 +36,16 @@ pub struct Decision {
 // A call, whatever its guards: refused, the elements v stay as they came; else w is put in their place. Value and elements need be
 // the call's only where no guard applies.
 #[tactic(auto, using(crate::proofs::GuardLaws::pass_clear, crate::proofs::GuardLaws::refuse_ruled, crate::proofs::GuardLaws::pass_ruled))]
-pub fn settle(v: Slots, k: Guarded, value: u32, w: Slots) -> Decision
+pub fn settle(v: Slots, k: Result<(), Refusal>, value: u32, w: Slots) -> Decision
     ensures { (gs : List Guard) (n : ℕ) (u : SlotsHeld) → T (numbered gs) → guarded k ≡ first_number gs → (Clear gs → (value ≡ n) × (w ≡ u)) → ruled_of result ≡ settled v gs n u }
 {
     match k {
-        Guarded::Refuse(why) => Decision {
-            answer: Answer::Refused(why),
+        Err(why) => Decision {
+            answer: Err(why),
             slots: v,
         },
-        Guarded::Pass => Decision {
-            answer: Answer::Value(value),
+        Ok(()) => Decision {
+            answer: Ok(value),
             slots: w,
         },
     }

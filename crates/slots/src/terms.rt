@@ -5,11 +5,18 @@ ghost use Rattle.slots.specs.Terms.{origin_terms};
 
 use crate::Slots;
 use model::Origin;
-use origins::terms::{Allowance, allowance_in};
+use origins::authority::RoleColumns;
+use origins::standing::Party;
+use origins::terms::Allowance;
 
 // What the origin o allows, read from the slot `role` or `parent`.
-pub fn origin_allows(v: Slots, columns: &[u32; 64], o: Origin) -> Allowance
+pub fn origin_allows(v: Slots, columns: &RoleColumns, o: Origin) -> Allowance
     ensures { terms_in result ≡ origin_terms v columns.now o }
 {
-    allowance_in(columns, o, v.role, v.parent)
+    let party = Party {
+        origin: o,
+        role: &v.role,
+        capability: &v.parent,
+    };
+    party.allows_by(columns)
 }

@@ -21,6 +21,7 @@ use Rattle.model.specs.Rulings.{value}
 use Rattle.model.proofs.Authority.{authority_past}
 use Rattle.model.specs.Setters.{with_roles, with_capabilities, with_revoked, with_use_limit, with_permissions}
 use Rattle.model.specs.Administration.{cut_permissions}
+use Rattle.origins.specs.declared.authority.RoleColumns.{RoleColumns}
 use Rattle.origins.specs.Authority.{item, role_item, authority_in, granted_by, Columns}
 use Rattle.origins.specs.Numbers.{capability_held}
 use Rattle.origins.proofs.Laws.{role_granted, authority_read, bare_read}
@@ -57,12 +58,12 @@ one_le false e = omega arith
 
 -- ---- one capability, whose parent is read from its place
 
-module _ (roles : List Role) (cs : List Capability) (column : List ℕ) (kept : Columns column roles) (amount : length roles ≡ 32) where
+module _ (roles : List Role) (cs : List Capability) (column : RoleColumns) (kept : Columns column roles) (amount : length roles ≡ 32) where
   -- no role is past 31
-  role_above : (k : ℕ) → Dec (k < 32) → role_item column 0 k ≡ role_authority roles k
+  role_above : (k : ℕ) → Dec (k < 32) → role_item column.grants k ≡ role_authority roles k
   unfolding role_item
   role_above k (yes l) = role_granted column roles kept k l
-  role_above k (no g) = ap (λ (b : Bool). cond b (item column 0 k) 0) (le-ltb k 32 (omega arith)) ∙ authority_past roles k (omega arith)
+  role_above k (no g) = ap (λ (b : Bool). cond b (item column.grants k) 0) (le-ltb k 32 (omega arith)) ∙ authority_past roles k (omega arith)
 
   granted_above : (o : Origin) (j : ℕ) → j ≡ capability_held o → granted_by column o (capability_at cs j) ≡ (terms roles cs o).grants
   unfolding terms

@@ -11,6 +11,7 @@ use Rattle.model.specs.Setters.{with_revoked, with_use_limit, with_permissions, 
 use Rattle.model.specs.Sweeps.{mark_one, limit_one}
 use Rattle.model.specs.Administration.{cut_permissions}
 use Rattle.model.specs.Rulings.{value, Effect}
+use Rattle.origins.specs.declared.authority.RoleColumns.{RoleColumns}
 use Rattle.origins.specs.Authority.{granted_by}
 use Rattle.origins.specs.Terms.{bare_in}
 use Rattle.sweeps.specs.declared.Sweep.{Sweep}
@@ -23,7 +24,7 @@ one_if t = cond t 1 0
 -- ---- one sweep
 
 -- capability c, which has number i, once the sweep has reached it; its parent is as it is by then
-abbrev pub swept_one : Sweep → ℕ → Capability → Capability → List ℕ → Capability
+abbrev pub swept_one : Sweep → ℕ → Capability → Capability → RoleColumns → Capability
 swept_one (Mark n) i c parent column = with_revoked c (c.revoked || (eqb i n || (bare_in c.origin parent).revoked))
 swept_one (Limit n limit) i c parent column =
     with_use_limit c (cond (eqb i n) limit (min c.use_limit (bare_in c.origin parent).use_limit))

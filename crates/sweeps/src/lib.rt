@@ -1,14 +1,14 @@
 // The sweep over all capabilities in rising number: one loop over leaves that take single capabilities.
 #![tactic(auto)]
 
-ghost use Rattle.std.specs.Prelude.{◌≡◌, cond, ◌||◌, min, length};
+ghost use Rattle.std.specs.Prelude.{◌≡◌, cond, not, ◌&&◌, ◌||◌, min, length};
 ghost use Rattle.std.specs.Int.Bits.{bit_and};
 ghost use Rattle.model.specs.Requests.{effect_of};
 ghost use Rattle.model.specs.Setters.{with_revoked, with_use_limit, with_permissions};
 ghost use Rattle.sweeps.specs.Sweeping.{one_if, swept_one, roles_after, sweep_value, swept_by};
 
-use model::{Answer, Capability, Register, Reply, Role};
-use origins::authority::{columns_of, granted_by};
+use model::{Capability, Register, Reply, Role};
+use origins::authority::{RoleColumns, columns_of, granted_by};
 use origins::numbers::capability_held;
 use origins::terms::bare_allowance;
 
@@ -16,44 +16,43 @@ use origins::terms::bare_allowance;
 fn marked(c: Capability, named: bool, above: bool) -> Capability
     ensures { result ≡ with_revoked c (c.revoked || (named || above)) }
 {
-    let mut next = c;
-    next.revoked = c.revoked | (named | above);
-    next
+    Capability {
+        revoked: c.revoked || (named || above),
+        ..c
+    }
 }
 
-// 1 where the test passes.
-#[tactic(auto, using(masks::proofs::Truth::cond_true, masks::proofs::Truth::cond_false), unfolding(crate::specs::Sweeping::one_if))]
-pub fn one_if(test: bool) -> u32
-    ensures { result ≡ one_if test }
+// One capability that is marked now and was not before.
+#[tactic(auto, unfolding(crate::specs::Sweeping::one_if))]
+fn newly(before: Capability, after: Capability) -> u32
+    ensures { result ≡ one_if (after.revoked && not before.revoked) }
 {
-    if test { 1 } else { 0 }
+    u32::from(after.revoked && !before.revoked)
 }
 
 // The capability named gets the limit; any other keeps its own, cut to its origin's.
-#[tactic(auto, using(masks::proofs::Truth::cond_false))]
 fn limit_for(named: bool, limit: u16, own: u16, bound: u16) -> u16
     ensures { result ≡ cond named limit (min own bound) }
 {
-    if named {
-        return limit;
-    }
-    if own < bound { own } else { bound }
+    if named { limit } else { own.min(bound) }
 }
 
 fn limited(c: Capability, named: bool, limit: u16, bound: u16) -> Capability
     ensures { result ≡ with_use_limit c (cond named limit (min c.use_limit bound)) }
 {
-    let mut next = c;
-    next.use_limit = limit_for(named, limit, c.use_limit, bound);
-    next
+    Capability {
+        use_limit: limit_for(named, limit, c.use_limit, bound),
+        ..c
+    }
 }
 
 fn cut(c: Capability, grants: u32) -> Capability
     ensures { result ≡ with_permissions c (bit_and c.permissions grants) }
 {
-    let mut next = c;
-    next.permissions = c.permissions & grants;
-    next
+    Capability {
+        permissions: c.permissions & grants,
+        ..c
+    }
 }
 
 // What a call over the whole tree has done to every capability, in rising number.
@@ -68,39 +67,30 @@ pub enum Sweep {
 }
 
 // Capability c, which has number i, once the sweep has reached it; its parent is as it is by then.
-fn swept(s: Sweep, i: usize, c: Capability, parent: Capability, columns: &[u32; 64]) -> Capability
+fn swept(s: Sweep, i: usize, c: Capability, parent: Capability, columns: &RoleColumns) -> Capability
     ensures { result ≡ swept_one s i c parent columns.now }
 {
-    let o = c.origin;
     match s {
         Sweep::Mark(n) => {
-            let up = bare_allowance(o, parent);
-            marked(c, i == n as usize, up.revoked)
+            let above = bare_allowance(c.origin, parent).revoked;
+            marked(c, i == usize::from(n), above)
         }
         Sweep::Limit(n, limit) => {
-            let up = bare_allowance(o, parent);
-            limited(c, i == n as usize, limit, up.use_limit)
+            let bound = bare_allowance(c.origin, parent).use_limit;
+            limited(c, i == usize::from(n), limit, bound)
         }
-        Sweep::Cut(_, _) => cut(c, granted_by(columns, o, parent)),
+        Sweep::Cut(_, _) => cut(c, granted_by(columns, c.origin, parent)),
     }
 }
 
 // The roles that the sweep goes by.
-fn roles_after(roles: [Role; 32], s: Sweep) -> [Role; 32]
+fn roles_after(mut roles: [Role; 32], s: Sweep) -> [Role; 32]
     ensures { result ≡ roles_after roles s }
 {
-    match s {
-        Sweep::Mark(_) => roles,
-        Sweep::Limit(_, _) => roles,
-        Sweep::Cut(k, p) => {
-            let at = (k % 32) as usize;
-            let mut x = roles[at];
-            x.permissions = p;
-            let mut next = roles;
-            next[at] = x;
-            next
-        }
+    if let Sweep::Cut(k, p) = s {
+        roles[usize::from(k % 32)].permissions = p;
     }
+    roles
 }
 
 // The value of the call: the new marks, the limit, or 0.
@@ -109,36 +99,31 @@ fn sweep_value(s: Sweep, marks: u32) -> u32
 {
     match s {
         Sweep::Mark(_) => marks,
-        Sweep::Limit(_, limit) => limit as u32,
+        Sweep::Limit(_, limit) => u32::from(limit),
         Sweep::Cut(_, _) => 0,
     }
 }
 
 // One sweep over all capabilities; the register is one local.
-#[tactic(auto, using(crate::proofs::SweepLaws::sweep_more, crate::proofs::SweepLaws::sweep_done, crate::proofs::SweepLaws::count_more, crate::proofs::SweepLaws::one_le, crate::proofs::SweepLaws::newly_step, crate::proofs::SweepLaws::swept_step, crate::proofs::SweepLaws::after_amount), unfolding(masks::specs::Tests::rising, masks::specs::Tests::count_below))]
+#[tactic(auto, unfolding(masks::specs::Tests::rising, masks::specs::Tests::count_below))]
 pub fn sweep_all(r: Register, s: Sweep) -> Reply
     requires { length r.roles ≡ 32 }
     ensures { effect_of result ≡ swept_by r s }
 {
-    let before = r.roles;
-    let roles = roles_after(before, s);
-    let columns = columns_of(roles);
+    let roles = roles_after(r.roles, s);
+    let columns = columns_of(&roles);
     let mut next = r;
     next.roles = roles;
     let mut marks: u32 = 0;
-    let mut i: usize = 0;
-    while i < 256 {
+    for i in 0..256 {
         let c = next.capabilities[i];
-        let o = c.origin;
-        let parent = next.capabilities[capability_held(o) as usize];
+        let parent = next.capabilities[usize::from(capability_held(c.origin))];
         let d = swept(s, i, c, parent, &columns);
         next.capabilities[i] = d;
-        marks = marks + one_if(d.revoked & !c.revoked);
-        i = i + 1;
+        marks += newly(c, d);
     }
-    let value = sweep_value(s, marks);
     Reply {
-        answer: Answer::Value(value),
+        answer: Ok(sweep_value(s, marks)),
         register: next,
     }
 }

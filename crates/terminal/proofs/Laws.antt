@@ -1,4 +1,4 @@
--- What a played journal leaves in an output with room.
+-- What a played journal leaves in an output with room, and where a transfer stands after one more call.
 use borrow.Rule.Slice.PartMut.{put_mid}
 use Rattle.std.proofs.Common.{◌≡◌, ℕ, ◌+◌, ◌-◌, ◌≤◌, List, ◌++◌, length, take, drop, Option, ap, arith}
 use Rattle.std.specs.Io.KnownBytes.{Appends, Consumes}

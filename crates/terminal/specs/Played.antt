@@ -17,7 +17,7 @@ Replies input before after written = (after ≡ front (program input) before) ×
 abbrev pub Answers : End → (input before after : List ℕ) → Transferred → Type 0
 Answers Ended input before after written = Replies input before after written
 Answers Whole input before after written = Replies input before after written
-Answers Failed input before after written = (after ≡ before) × (written ≡ record { count = 0; end = Failed })
+Answers (Failed error) input before after written = (after ≡ before) × (written ≡ record { count = 0; end = Failed error })
 
 -- up to 32,769 bytes are read, one above the limit, and just those that were read are answered
 abbrev pub Plays : (room before after : List ℕ) → Played → Type 0

@@ -5,14 +5,9 @@ use std::io::Write;
 use std::{fmt, io};
 
 // A line of what failed and why. Where even that cannot be written, nobody is left to be told.
-pub(crate) fn tell<R: Eprint>(rt: &R, what: &str, cause: Option<io::Error>) {
-    let _ = match cause {
-        Some(error) => {
-            let why = Why(error);
-            eprintln!(rt; "{what}: {why}")
-        }
-        None => rt.eprintln(what),
-    };
+pub(crate) fn tell<R: Eprint>(rt: &R, what: &str, error: io::Error) {
+    let why = Why(error);
+    let _ = eprintln!(rt; "{what}: {why}");
 }
 
 // Why a call failed, in the system's words alone: std puts the number of the error after them.

@@ -30,52 +30,39 @@ fn answer(input: &[u8], out: &mut [u8]) -> usize
     requires { 163840 ≤ length out.old }
     ensures { (result ≡ length (program input.now)) × (out.new ≡ front (program input.now) out.old) × (result ≤ length out.new) }
 {
-    let start = model::fresh();
-    player::journal(start, input, out)
+    player::journal(model::fresh(), input, out)
 }
 
 // What was not written whole is told on standard error. Some writers say so only as they are flushed.
-fn finish<W: Write, E: Eprint>(
-    rt: &E,
-    writer: &mut W,
-    written: Transferred,
-    cause: Option<io::Error>,
-)
+fn finish<W: Write, E: Eprint>(rt: &E, writer: &mut W, written: Transferred)
     ensures { Keeps (W.contents writer.old) (W.contents writer.new) }
 {
-    let End::Whole = written.end else {
-        faults::tell(rt, "journal: output", cause);
+    if let End::Failed(error) = written.end {
+        faults::tell(rt, "journal: output", error);
         return;
-    };
+    }
     if written.count == 0 {
         return;
     }
     if let Err(error) = writer.flush() {
-        faults::tell(rt, "journal: output", Some(error));
+        faults::tell(rt, "journal: output", error);
     }
 }
 
-// The answers to the first n bytes of the room, written out.
-fn reply<W: Write, E: Eprint>(
-    rt: &E,
-    writer: &mut W,
-    room: &[u8],
-    n: usize,
-    out: &mut [u8],
-) -> Transferred
-    requires n_in_bounds { n ≤ length room.now }
+// The answers to an input, written out.
+fn reply<W: Write, E: Eprint>(rt: &E, writer: &mut W, input: &[u8], out: &mut [u8]) -> Transferred
     requires in_bounds { 163840 ≤ length out.old }
-    ensures replies { Replies (take n room.now) out.old out.new result }
-    ensures bytes { Appends (W.contents writer.old) (W.contents writer.new) (take result.count (program (take n room.now))) }
+    ensures replies { Replies input.now out.old out.new result }
+    ensures bytes { Appends (W.contents writer.old) (W.contents writer.new) (take result.count (program input.now)) }
 {
-    let k = answer(&room[..n], out);
-    let mut cause = None;
-    let written = drain(writer, &out[..k], &mut cause);
-    finish(rt, writer, written, cause);
+    let k = answer(input, out);
+    let written = drain(writer, &out[..k]);
+    finish(rt, writer, written);
     written
 }
 
-// Plays what a reader gives. Where it cannot be read to its end, that is told on standard error and nothing is answered.
+// Plays what a reader gives. Where it cannot be read to its end, that is told on standard error and nothing is answered. The room for
+// answers is a clause, as slices have it; `play` below has it in a type.
 pub fn play_streams<R: Read, W: Write, E: Eprint>(
     rt: &E,
     reader: &mut R,
@@ -90,25 +77,17 @@ pub fn play_streams<R: Read, W: Write, E: Eprint>(
     ensures writes { Appends (W.contents writer.old) (W.contents writer.new) (take result.output.count (program (take result.input.count room.new))) }
     ensures whole { AnswersWhole result (R.remaining reader.old) (W.contents writer.old) (W.contents writer.new) }
 {
-    let mut cause = None;
-    let read = fill(reader, room, &mut cause);
-    let end = read.end;
-    if let End::Failed = end {
-        faults::tell(rt, "journal: input", cause);
-        return Played {
-            input: read,
-            output: Transferred {
-                count: 0,
-                end: End::Failed,
-            },
+    let input = fill(reader, room);
+    if let End::Failed(error) = input.end {
+        faults::tell(rt, "journal: input", error);
+        let output = Transferred {
+            count: 0,
+            end: input.end,
         };
+        return Played { input, output };
     }
-    let n = read.count;
-    let written = reply(rt, writer, room, n, out);
-    Played {
-        input: read,
-        output: written,
-    }
+    let output = reply(rt, writer, &room[..input.count], out);
+    Played { input, output }
 }
 
 // Plays standard input, and answers on standard output.
@@ -121,9 +100,8 @@ pub fn play(rt: &HostRuntime, input: &mut [u8; 32769], out: &mut [u8; 163840]) -
 // Writes what is asked for in place of a journal.
 fn show<R: Print + Eprint>(rt: &R, text: &str) {
     let mut writer = io::writer(rt);
-    let mut cause = None;
-    let written = drain(&mut writer, text.as_bytes(), &mut cause);
-    finish(rt, &mut writer, written, cause);
+    let written = drain(&mut writer, text.as_bytes());
+    finish(rt, &mut writer, written);
 }
 
 // Tells what was asked for in place of a journal. Arguments that are not known are told on standard error, as a fault is.
@@ -140,7 +118,6 @@ A fault is one line on standard error; the status is 0 all the same.
 ",
         ),
         Wish::Version => show(rt, "fellunqa-journal 0.5.0\n"),
-        Wish::Journal => {}
         Wish::Unknown => {
             let _ = rt.eprintln("journal: unknown arguments; --help tells the use");
         }

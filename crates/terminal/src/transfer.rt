@@ -7,19 +7,12 @@ ghost use Rattle.terminal.specs.Transfer.{Moves, StopsAtEnd, moved, EndsAtEnd, T
 use std::io::{ErrorKind, Read, Write};
 use std::{io, thread};
 
-// Why a transfer stopped: the input ended, all of the lent bytes were moved, or a call failed. `cause` then has its error.
+// Why a transfer stopped: the input ended, all of the lent bytes were moved, or a call failed, with its error.
 #[derive(Clone, Copy)]
 pub enum End {
     Ended,
     Whole,
-    Failed,
-}
-
-// What one call came to: so many bytes, none where it is to be tried again, or the end.
-#[derive(Clone, Copy)]
-enum Moved {
-    Bytes(usize),
-    Stop(End),
+    Failed(io::Error),
 }
 
 // How many bytes were moved, and why no more.
@@ -29,10 +22,8 @@ pub struct Transferred {
     pub end: End,
 }
 
-// Keeps the error of a call that failed, and says whether it is to be tried again: a signal interrupted it, or the descriptor would
-// block.
-fn again(error: io::Error, cause: &mut Option<io::Error>) -> bool {
-    *cause = Some(error);
+// Whether a call that failed is to be tried again: a signal interrupted it, or the descriptor would block.
+fn again(error: io::Error) -> bool {
     match error.kind() {
         ErrorKind::WouldBlock => {
             thread::yield_now();
@@ -43,92 +34,70 @@ fn again(error: io::Error, cause: &mut Option<io::Error>) -> bool {
     }
 }
 
-fn read_some<R: Read>(input: &mut R, room: &mut [u8], cause: &mut Option<io::Error>) -> Moved
+// What one call came to: so many bytes, none where it is to be tried again, or the end.
+fn read_some<R: Read>(input: &mut R, room: &mut [u8]) -> Result<usize, End>
     ensures moves { Moves (length room.new) result }
     ensures bytes { Consumes (R.remaining input.old) (R.remaining input.new) (take (moved result) room.new) }
     ensures end { StopsAtEnd result (R.remaining input.new) }
 {
-    if room.len() == 0 {
-        return Moved::Stop(End::Whole);
+    if room.is_empty() {
+        return Err(End::Whole);
     }
     match input.read(room) {
-        Ok(0) => Moved::Stop(End::Ended),
-        Ok(n) => Moved::Bytes(n),
-        Err(error) if again(error, cause) => Moved::Bytes(0),
-        Err(_) => Moved::Stop(End::Failed),
+        Ok(0) => Err(End::Ended),
+        Ok(n) => Ok(n),
+        Err(error) if again(error) => Ok(0),
+        Err(error) => Err(End::Failed(error)),
     }
 }
 
-fn write_some<W: Write>(output: &mut W, bytes: &[u8], cause: &mut Option<io::Error>) -> Moved
+fn write_some<W: Write>(output: &mut W, bytes: &[u8]) -> Result<usize, End>
     ensures moves { Moves (length bytes.now) result }
     ensures bytes { Appends (W.contents output.old) (W.contents output.new) (take (moved result) bytes.now) }
 {
-    if bytes.len() == 0 {
-        return Moved::Stop(End::Whole);
+    if bytes.is_empty() {
+        return Err(End::Whole);
     }
     match output.write(bytes) {
-        Ok(0) => {
-            *cause = Some(io::Error::from(ErrorKind::WriteZero));
-            Moved::Stop(End::Failed)
-        }
-        Ok(n) => Moved::Bytes(n),
-        Err(error) if again(error, cause) => Moved::Bytes(0),
-        Err(_) => Moved::Stop(End::Failed),
+        Ok(0) => Err(End::Failed(io::Error::from(ErrorKind::WriteZero))),
+        Ok(n) => Ok(n),
+        Err(error) if again(error) => Ok(0),
+        Err(error) => Err(End::Failed(error)),
     }
 }
 
 // Reads until the input ends, the room is full or a read fails. A proved loop has to end, and nothing says that a descriptor which
 // would block stops doing so: the turns are bounded by a number that no run uses up.
 #[tactic(auto, using(crate::proofs::Laws::reads_on))]
-pub fn fill<R: Read>(input: &mut R, room: &mut [u8], cause: &mut Option<io::Error>) -> Transferred
+pub fn fill<R: Read>(input: &mut R, room: &mut [u8]) -> Transferred
     ensures transfers { Transfers (length room.new) result }
     ensures bytes { Consumes (R.remaining input.old) (R.remaining input.new) (take result.count room.new) }
     ensures end { EndsAtEnd result.end (R.remaining input.new) }
 {
-    let mut at: usize = 0;
+    let mut count = 0;
     for _ in 0..u64::MAX {
-        let moved = read_some(input, &mut room[at..], cause);
-        match moved {
-            Moved::Bytes(k) => {
-                at += k;
-            }
-            Moved::Stop(end) => {
-                return Transferred {
-                    count: at,
-                    end: end,
-                };
-            }
+        match read_some(input, &mut room[count..]) {
+            Ok(k) => count += k,
+            Err(end) => return Transferred { count, end },
         }
     }
-    Transferred {
-        count: at,
-        end: End::Failed,
-    }
+    let end = End::Failed(io::Error::from(ErrorKind::WouldBlock));
+    Transferred { count, end }
 }
 
-// Writes until all is written or a write fails.
+// Writes until all is written or a write fails. One loop for both would be no plainer: a trait with its law, and a struct for each.
 #[tactic(auto, using(crate::proofs::Laws::writes_on))]
-pub fn drain<W: Write>(output: &mut W, bytes: &[u8], cause: &mut Option<io::Error>) -> Transferred
+pub fn drain<W: Write>(output: &mut W, bytes: &[u8]) -> Transferred
     ensures transfers { Transfers (length bytes.now) result }
     ensures bytes { Appends (W.contents output.old) (W.contents output.new) (take result.count bytes.now) }
 {
-    let mut at: usize = 0;
+    let mut count = 0;
     for _ in 0..u64::MAX {
-        let moved = write_some(output, &bytes[at..], cause);
-        match moved {
-            Moved::Bytes(k) => {
-                at += k;
-            }
-            Moved::Stop(end) => {
-                return Transferred {
-                    count: at,
-                    end: end,
-                };
-            }
+        match write_some(output, &bytes[count..]) {
+            Ok(k) => count += k,
+            Err(end) => return Transferred { count, end },
         }
     }
-    Transferred {
-        count: at,
-        end: End::Failed,
-    }
+    let end = End::Failed(io::Error::from(ErrorKind::WouldBlock));
+    Transferred { count, end }
 }

@@ -1,5 +1,3 @@
--- Laws of the definitions of specs/ and of document 01's lines.
+-- Laws of the definitions of specs/ and of the lines of `model`.
 pub mod PartLaws
 pub mod NumberLaws
-pub mod ShortLaws
-pub mod ArgumentLaws

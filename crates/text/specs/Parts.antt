@@ -1,16 +1,12 @@
 -- Intermediate: the code's own terms, proved to come to the definitions of `model`.
 -- A list of bytes by the part before its first separator and what follows that part.
-use Rattle.std.specs.Prelude.{Bool, true, cond, List, [], ◌∷◌, ℕ, eqb}
+use Rattle.std.specs.Prelude.{Bool, true, cond, List, [], ◌∷◌, ℕ, eqb, length, drop}
 use Rattle.masks.specs.Bytes.{split}
 
 -- the bytes before the first that equals b, or all of them
 abbrev pub before : ℕ → List ℕ → List ℕ
 before b [] = []
 before b (x ∷ s) = let rest = before b s in cond (eqb x b) [] (x ∷ rest)
-
--- "The first word of a line is the part of that line before its first space, or all of it without one"
-abbrev pub first_word : List ℕ → List ℕ
-first_word line = before 32 line
 
 -- a word ends before these bytes: there are none, or a space comes first
 abbrev pub ends_word : List ℕ → Bool
@@ -21,3 +17,8 @@ ends_word (x ∷ s) = eqb x 32
 abbrev pub after : ℕ → List ℕ → List (List ℕ)
 after b [] = []
 after b (x ∷ s) = split b s
+
+-- the bytes that follow a word, where s begins with the separator before it or is empty
+abbrev pub past_word : List ℕ → List ℕ
+past_word [] = []
+past_word (x ∷ s) = drop (length (before 32 s)) s

@@ -24,8 +24,7 @@ use Rattle.model.proofs.Rules.{kept→, formed→}
 use Rattle.model.proofs.Tree.{falls}
 use Rattle.model.proofs.Amending.{sweep_limits}
 use Rattle.model.proofs.Settling.{passed, settle_past, settle-after}
-use Rattle.slots.specs.declared.guards.Guarded.{Guarded}
-use Rattle.slots.specs.declared.guards.Guarded.TheVariants.{Pass, Refuse}
+use Rattle.std.specs.Prelude.{⊤, Result, Ok, Err}
 use Rattle.slots.specs.Guards.{guarded, first_number}
 use Rattle.origins.specs.Numbers.{capability_held}
 use Rattle.origins.specs.Terms.{bare_in}
@@ -61,7 +60,7 @@ module _
     (r : Register) (formed : T (well_formed r)) (user n : ℕ) (change : Change) (up bound : ℕ) (at_up : up ≡ capability_held (origin_at r.capabilities (n % 256)))
     (bounded : bound ≡ (bare_in (origin_at r.capabilities (n % 256)) (capability_at r.capabilities up)).use_limit)
     (a : Amendment) (asked : a ≡ amendment_of change (capability_at r.capabilities (n % 256)).use_limit)
-    (k : Guarded) (checks : guarded k ≡ first_number (amendment_guards r.enrolled r.count user n (capability_at r.capabilities (n % 256)) a bound)) where
+    (k : Result ⊤ Refusal) (checks : guarded k ≡ first_number (amendment_guards r.enrolled r.count user n (capability_at r.capabilities (n % 256)) a bound)) where
   abbrev limit : ℕ
   limit = changed change (capability_at r.capabilities n).use_limit
 
@@ -107,7 +106,7 @@ module _
           ∙ ap₂ (λ (x y : ℕ). settle r (rest n (is_zero change) (falls_below change (capability_at r.capabilities n).use_limit) x y) v s) (amend_limit e t) (bound_is e)
           ∙ settle-after r asked_rest v _ s _ (h e t)
 
-  pub amend_refused : {why : Refusal} → k ≡ Refuse why → record { answer = refused (refusal_number why); after = r } ≡ settled r (amend user n change)
+  pub amend_refused : {why : Refusal} → k ≡ Err why → record { answer = refused (refusal_number why); after = r } ≡ settled r (amend user n change)
   amend_refused q = refuse_ruled r (amend_ruling r user n change).after _ (amend_ruling r user n change).result k checks q ∙ amend_guards_lem _ _ (λ e t g. (refl, refl))
 
   -- no origin's limit passes 65,535
@@ -118,7 +117,7 @@ module _
       let low : j < n = falls r.enrolled r.roles r.count r.capabilities (kept→ r formed).capabilities n j l e in
       ((formed→ r formed).capabilities j (omega arith)).ranges.use_limit
 
-  pub amend_passed : k ≡ Pass → swept_by r (Limit (n % 256) (a.limit % 65536)) ≡ settled r (amend user n change)
+  pub amend_passed : k ≡ Ok tt → swept_by r (Limit (n % 256) (a.limit % 65536)) ≡ settled r (amend user n change)
   unfolding amend_ruling
   amend_passed p =
       pass_ruled r _ _ (a.limit % 65536) k tt checks p

@@ -4,4 +4,3 @@ pub mod RevokeLaws
 pub mod SameLaws
 pub mod AmendLaws
 pub mod WithdrawLaws
-pub mod OrderLaws

@@ -7,7 +7,7 @@ use Prim.Native.Nat.{ℕ, zero, suc, ◌+◌, ◌%◌, ◌≤◌, ◌<◌}
 use native.Mathlib.Nat.{le_refl, eq-or-lt_of_le}
 use native.Mathlib.Omega.{arith}
 use lib.Dec.{T, eqb, ltb, ltb→lt}
-use lib.ListN.{drop, get_or}
+use lib.ListN.{drop}
 use Rattle.masks.specs.Masks.{has}
 use Rattle.masks.specs.Tests.{count_below, rising}
 use Rattle.masks.proofs.Bounded.{count_below_ext}
@@ -15,7 +15,7 @@ use Rattle.masks.proofs.Rising.{rising_later, rising_done}
 use Rattle.model.specs.declared.Capability.{Capability}
 use Rattle.model.specs.declared.Refusal.{Refusal}
 use Rattle.model.specs.declared.Register.{Register}
-use Rattle.model.specs.State.{blank_capability, capability_at}
+use Rattle.model.specs.State.{blank_capability, capability_at, origin_at}
 use Rattle.model.specs.Setters.{with_capabilities}
 use Rattle.model.specs.Sweeps.{mark_one}
 use Rattle.model.specs.Lineage.{in_lineage}
@@ -26,8 +26,7 @@ use Rattle.model.specs.Calls.{revoke, ruling, settled}
 use Rattle.model.specs.Requests.{refusal_number}
 use Rattle.model.proofs.Rules.{kept→}
 use Rattle.model.proofs.Revoking.{revoked_after, revoke_at, revoke_capabilities, sweep_marks}
-use Rattle.slots.specs.declared.guards.Guarded.{Guarded}
-use Rattle.slots.specs.declared.guards.Guarded.TheVariants.{Pass, Refuse}
+use Rattle.std.specs.Prelude.{⊤, Result, Ok, Err}
 use Rattle.slots.specs.Guards.{guarded, first_number}
 use Rattle.origins.proofs.Laws.{in_range_lem}
 use Rattle.sweeps.specs.declared.Sweep.TheVariants.{Mark}
@@ -35,7 +34,7 @@ use Rattle.sweeps.specs.Sweeping.{newly_by, swept_by}
 use Rattle.tree.specs.Tree.{lineage_has}
 use Rattle.model.proofs.Settling.{settle_past}
 use Rattle.slots.proofs.GuardLaws.{refuse_ruled, pass_ruled}
-use Rattle.tree.proofs.Ascent.{Origins, Creators, created_is}
+use Rattle.tree.proofs.Ascent.{created_is}
 
 -- the capabilities once revoke's sweep has done those below i, and whether it newly marks i
 abbrev marked_below : List Capability → ℕ → ℕ → List Capability
@@ -96,9 +95,9 @@ module _ (r : Register) (formed : T (well_formed r)) (n : ℕ) (there : n < r.co
 -- ---- the call
 
 module _
-    (r : Register) (formed : T (well_formed r)) (user n : ℕ) (origins creators : List ℕ) (up : Origins origins r.capabilities) (by : Creators creators r.capabilities)
-    (entitled : Bool) (along : (f : ℕ) → n % 256 < f → entitled ≡ lineage_has (λ k. get_or origins k 0) (λ k. eqb (get_or creators k 0) user) f (n % 256))
-    (k : Guarded) (checks : guarded k ≡ first_number (revoke_guards r.enrolled r.count user n entitled (capability_at r.capabilities (n % 256)).revoked)) where
+    (r : Register) (formed : T (well_formed r)) (user n : ℕ) (entitled : Bool)
+    (along : (f : ℕ) → n % 256 < f → entitled ≡ lineage_has (origin_at r.capabilities) (λ k. eqb (capability_at r.capabilities k).creator user) f (n % 256))
+    (k : Result ⊤ Refusal) (checks : guarded k ≡ first_number (revoke_guards r.enrolled r.count user n entitled (capability_at r.capabilities (n % 256)).revoked)) where
   abbrev guards : List Guard
   guards = revoke_guards r.enrolled r.count user n entitled (capability_at r.capabilities (n % 256)).revoked
 
@@ -113,17 +112,17 @@ module _
       let l : n < r.count = ltb→lt n r.count known.1.0 in
       let w : (v ≡ (revoke_ruling r user n).result) × (s ≡ (revoke_ruling r user n).after) = h e l in
       ap₂ (λ (a b : Bool). settle r (rest a b) v s)
-      (created_is r formed origins up creators by user n entitled l (rw e at along))
+      (created_is r formed user n entitled l (rw e at along))
       (ap (λ (j : ℕ). (capability_at r.capabilities j).revoked) e)
       ∙ ap₂ (settle r (drop 2 (revoke_ruling r user n).guards)) w.0 w.1))
     where
       rest : Bool → Bool → List Guard
       rest a b = drop 2 (revoke_guards r.enrolled r.count user n a b)
 
-  pub revoke_refused : {why : Refusal} → k ≡ Refuse why → record { answer = refused (refusal_number why); after = r } ≡ settled r (revoke user n)
+  pub revoke_refused : {why : Refusal} → k ≡ Err why → record { answer = refused (refusal_number why); after = r } ≡ settled r (revoke user n)
   revoke_refused q = refuse_ruled r (revoke_ruling r user n).after guards (revoke_ruling r user n).result k checks q ∙ revoke_guards_lem _ _ (λ e l. (refl, refl))
 
-  pub revoke_passed : k ≡ Pass → swept_by r (Mark (n % 256)) ≡ settled r (revoke user n)
+  pub revoke_passed : k ≡ Ok tt → swept_by r (Mark (n % 256)) ≡ settled r (revoke user n)
   unfolding revoke_ruling
   revoke_passed p =
       pass_ruled r _ guards _ k tt checks p

@@ -1,62 +1,65 @@
 -- What same's core answers is the call of the model.
 use mathlib.Core.Path.{◌≡◌, ap, ap₂, ◌∙◌}
-use mathlib.Core.Bool.{Bool, cond, ◌&&◌, and_assoc}
+use mathlib.Core.Bool.{Bool, cond}
 use mathlib.Core.List.{List, ◌∷◌, zip_with}
 use Prim.Native.Nat.{ℕ, ◌%◌, ◌<◌}
+use native.Mathlib.Omega.{arith}
 use lib.Dec.{T, eqb, ltb→lt}
-use lib.ListN.{get_or}
+use Rattle.std.specs.Int.{from_bool}
 use Rattle.masks.specs.Tests.{each}
+use Rattle.std.specs.Prelude.{⊤, Result, Ok, Err}
+use Rattle.model.specs.declared.Refusal.{Refusal}
 use Rattle.model.specs.declared.Register.{Register}
-use Rattle.model.specs.State.{capability_at, role_at, authority}
+use Rattle.model.specs.State.{capability_at, origin_at, role_at}
 use Rattle.model.specs.Rules.{well_formed}
-use Rattle.model.specs.Rulings.{Outcome, Effect, Clear, verdict}
+use Rattle.model.specs.Rulings.{Clear, value, refused}
 use Rattle.model.specs.Comparison.{domain_of, constraints, compared, alike, same_guards, same_ruling}
+use Rattle.model.specs.Requests.{refusal_number}
 use Rattle.model.specs.Calls.{same, ruling, settled}
+use Rattle.slots.specs.Guards.{guarded, first_number}
+use Rattle.slots.proofs.GuardLaws.{yes_number, pass_clear, refuse_ruled, pass_ruled}
+use Rattle.origins.specs.declared.authority.RoleColumns.{RoleColumns}
 use Rattle.origins.specs.Authority.{authority_in, Columns}
 use Rattle.origins.proofs.Laws.{in_range_lem, authority_read}
-use Rattle.sweeps.specs.Sweeping.{one_if}
 use Rattle.tree.specs.Tree.{lineage_end}
-use Rattle.model.proofs.Settling.{settle_same}
-use Rattle.tree.proofs.Ascent.{Origins, root_is}
+use Rattle.tree.proofs.Ascent.{root_is}
 
--- x is where the lineage of capability n ends, by the column of origins
-abbrev pub EndsAt : List ℕ → ℕ → ℕ → Type 0
-EndsAt origins n x = (f : ℕ) → n % 256 < f → x ≡ lineage_end (λ k. get_or origins k 0) f (n % 256)
+-- what the code reads of capability n is what is compared of it
+pub compared_is : (r : Register) → T (well_formed r) → (columns : RoleColumns) → Columns columns r.roles → (n x a : ℕ) → n < r.count
+    → ((f : ℕ) → n < f → x ≡ lineage_end (origin_at r.capabilities) f n) → a ≡ authority_in columns (capability_at r.capabilities n)
+    → (role_at r.roles x).domain ∷ a ∷ constraints (capability_at r.capabilities n) ≡ compared r n
+unfolding domain_of
+compared_is r formed columns kept n x a l ends of_c =
+    ap₂ (λ (k b : ℕ). (role_at r.roles k).domain ∷ b ∷ constraints (capability_at r.capabilities n)) (root_is r formed n x l ends)
+    (of_c ∙ authority_read columns r.roles kept (capability_at r.capabilities n))
 
-module _
-    (r : Register) (formed : T (well_formed r)) (origins columns : List ℕ) (up : Origins origins r.capabilities) (column : Columns columns r.roles) where
-  domain_is : (n x : ℕ) → n % 256 ≡ n → n < r.count → EndsAt origins n x → (role_at r.roles x).domain ≡ domain_of r n
-  unfolding domain_of
-  domain_is n x e l h = ap (λ (k : ℕ). (role_at r.roles k).domain) (root_is r formed origins up n x l (rw e at h))
+-- ---- the call
 
-  -- what the code reads of capability n is what is compared of it
-  compared_is : (n x domain a : ℕ) → n % 256 ≡ n → n < r.count → EndsAt origins n x
-      → domain ≡ (role_at r.roles x).domain → a ≡ authority_in columns (capability_at r.capabilities (n % 256))
-      → domain ∷ a ∷ constraints (capability_at r.capabilities (n % 256)) ≡ compared r n
-  compared_is n x domain a e l ends of-x of_c =
-      ap₂ (λ (d b : ℕ). d ∷ b ∷ constraints (capability_at r.capabilities (n % 256))) (of-x ∙ domain_is n x e l ends) (of_c ∙ authority_read columns r.roles column (capability_at r.capabilities (n % 256)))
-      ∙ ap (λ (i : ℕ). domain_of r n ∷ authority r.roles (capability_at r.capabilities i) ∷ constraints (capability_at r.capabilities i)) e
+module _ (r : Register) (m n : ℕ) (k : Result ⊤ Refusal) (checks : guarded k ≡ first_number (same_guards r.count m n)) where
+  pub same_refused : {why : Refusal} → k ≡ Err why → record { answer = refused (refusal_number why); after = r } ≡ settled r (same m n)
+  unfolding settled ruling same_ruling
+  same_refused q = refuse_ruled r r (same_guards r.count m n) (cond (alike r m n) 1 0) k checks q
 
-  -- x and y are where the lineages end, a and b the authorities: v is the value by the definition
-  pub alike_value : (m n x y domain-a domain-b a b : ℕ) {constrained : Bool} {v : ℕ} → EndsAt origins m x → EndsAt origins n y
-      → domain-a ≡ (role_at r.roles x).domain → domain-b ≡ (role_at r.roles y).domain
-      → a ≡ authority_in columns (capability_at r.capabilities (m % 256)) → b ≡ authority_in columns (capability_at r.capabilities (n % 256))
-      → constrained ≡ each (zip_with eqb (constraints (capability_at r.capabilities (m % 256))) (constraints (capability_at r.capabilities (n % 256))))
-      → v ≡ one_if ((eqb domain-a domain-b && eqb a b) && constrained)
-      → Clear (same_guards r.count m n) → v ≡ cond (alike r m n) 1 0
-  unfolding alike one_if zip_with
-  alike_value m n x y domain-a domain-b a b {constrained} ends-m ends-n in-a in_b of-a of-b by e g =
-      let p = compared_is m x domain-a a (in_range_lem m 256 g.0.0) (ltb→lt m r.count g.1.0.0) ends-m in-a of-a in
-      let q = compared_is n y domain-b b (in_range_lem n 256 g.0.1.0) (ltb→lt n r.count g.1.0.1.0) ends-n in_b of-b in
-      e
-      ∙ ap (λ (t : Bool). cond t 1 0)
-      (and_assoc (eqb domain-a domain-b) (eqb a b) constrained
-      ∙ ap (λ (t : Bool). eqb domain-a domain-b && (eqb a b && t)) by
-      ∙ ap₂ (λ (s t : List ℕ). each (zip_with eqb s t)) p q)
+  same_clear : k ≡ Ok tt → Clear (same_guards r.count m n)
+  same_clear q = pass_clear (same_guards r.count m n) k tt checks q
 
--- an answer that changes nothing is the call's
-pub same_settled : (r : Register) (m n : ℕ) {q : Outcome} → q ≡ verdict (same_guards r.count m n) (cond (alike r m n) 1 0)
-    → ◌≡◌ {A = Effect Register} (record { answer = q; after = r }) (settled r (same m n))
-unfolding settled ruling same_ruling
-same_settled r m n e =
-    ap (λ (z : Outcome). record { answer = z; after = r }) e ∙ settle_same r (same_guards r.count m n) (cond (alike r m n) 1 0)
+  -- both capabilities have been created
+  pub first_created : k ≡ Ok tt → m % 256 < r.count
+  first_created q =
+      let g = same_clear q in
+      omega (arith, in_range_lem m 256 g.0.0, ltb→lt m r.count g.1.0.0)
+
+  pub second_created : k ≡ Ok tt → n % 256 < r.count
+  second_created q =
+      let g = same_clear q in
+      omega (arith, in_range_lem n 256 g.0.1.0, ltb→lt n r.count g.1.0.1.0)
+
+  pub same_passed : k ≡ Ok tt → (xs ys : List ℕ) (t : Bool) (v : ℕ) → xs ≡ compared r (m % 256) → ys ≡ compared r (n % 256) → t ≡ each (zip_with eqb xs ys)
+      → v ≡ from_bool t → record { answer = value v; after = r } ≡ settled r (same m n)
+  unfolding settled ruling same_ruling alike
+  same_passed q xs ys t v ex ey et ev =
+      let g = same_clear q in
+      let one : v ≡ cond (alike r m n) 1 0 =
+      ev ∙ yes_number t
+      ∙ ap (λ (b : Bool). cond b 1 0) (et ∙ ap₂ (λ (s l : List ℕ). each (zip_with eqb s l)) (ex ∙ ap (compared r) (in_range_lem m 256 g.0.0)) (ey ∙ ap (compared r) (in_range_lem n 256 g.0.1.0))) in
+      ap (λ (x : ℕ). record { answer = value x; after = r }) one ∙ pass_ruled r r (same_guards r.count m n) (cond (alike r m n) 1 0) k tt checks q

@@ -14,8 +14,7 @@ use Rattle.model.specs.Rulings.{refused, ◌unless◌, settle, role}
 use Rattle.model.specs.Administration.{putting_role, withdrawing, cut_after_role, withdraw_ruling}
 use Rattle.model.specs.Calls.{withdraw, ruling, settled}
 use Rattle.model.specs.Requests.{refusal_number}
-use Rattle.slots.specs.declared.guards.Guarded.{Guarded}
-use Rattle.slots.specs.declared.guards.Guarded.TheVariants.{Pass, Refuse}
+use Rattle.std.specs.Prelude.{⊤, Result, Ok, Err}
 use Rattle.slots.specs.Guards.{guarded, first_number}
 use Rattle.sweeps.specs.declared.Sweep.TheVariants.{Cut}
 use Rattle.sweeps.specs.Sweeping.{swept_by}
@@ -27,7 +26,7 @@ use Rattle.slots.proofs.GuardLaws.{refuse_ruled, pass_ruled}
 abbrev swept_from : Register → ℕ → Role → Register
 swept_from r j x = cut_after_role (putting_role r j x)
 
-module _ (r : Register) (k p : ℕ) (c : Guarded) (checks : guarded c ≡ first_number (withdrawing (role r (k % 32)) k p).guards) where
+module _ (r : Register) (k p : ℕ) (c : Result ⊤ Refusal) (checks : guarded c ≡ first_number (withdrawing (role r (k % 32)) k p).guards) where
   withdraw_guards : (s : Register) → (k % 32 ≡ k → p % 32 ≡ p → s ≡ swept_from r k (withdrawing (role r k) k p).after)
       → settle r (withdrawing (role r (k % 32)) k p).guards 0 s ≡ settled r (withdraw k p)
   unfolding settled ruling withdraw_ruling
@@ -37,10 +36,10 @@ module _ (r : Register) (k p : ℕ) (c : Guarded) (checks : guarded c ≡ first_
       let e : k % 32 ≡ k = in_range_lem k 32 ranged.0 in
       ap₂ (λ (j : ℕ) (t : Register). settle r (drop 1 (withdrawing (role r j) k p).guards) 0 t) e (h e (in_range_lem p 32 ranged.1.0)))
 
-  pub withdraw_refused : {why : Refusal} → c ≡ Refuse why → record { answer = refused (refusal_number why); after = r } ≡ settled r (withdraw k p)
+  pub withdraw_refused : {why : Refusal} → c ≡ Err why → record { answer = refused (refusal_number why); after = r } ≡ settled r (withdraw k p)
   withdraw_refused q = refuse_ruled r _ _ 0 c checks q ∙ withdraw_guards _ (λ e f. refl)
 
-  pub withdraw_passed : (left : ℕ) → left ≡ excluding (role r (k % 32)).permissions (p % 32) → c ≡ Pass → swept_by r (Cut (k % 32) left) ≡ settled r (withdraw k p)
+  pub withdraw_passed : (left : ℕ) → left ≡ excluding (role r (k % 32)).permissions (p % 32) → c ≡ Ok tt → swept_by r (Cut (k % 32) left) ≡ settled r (withdraw k p)
   withdraw_passed left m q =
       pass_ruled r _ _ 0 c tt checks q
       ∙ withdraw_guards _

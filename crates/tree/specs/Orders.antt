@@ -1,28 +1,22 @@
 -- Intermediate: the code's own terms, proved to come to the definitions of `model`.
--- What a call over the whole tree comes to, and what amend asks for.
-use Rattle.std.specs.Prelude.{false, ℕ, ◌+◌, ◌-◌, ◌%◌, eqb, ltb}
-use Rattle.model.specs.declared.Answer.TheVariants.{Refused}
+-- What a call over the whole tree comes to, what amend asks for, and what same compares.
+use Rattle.std.specs.Prelude.{false, List, [], ◌∷◌, ℕ, ◌+◌, ◌-◌, ◌%◌, eqb, ltb, Result, Ok, Err}
+use Rattle.model.specs.declared.Refusal.{Refusal}
 use Rattle.model.specs.declared.Register.{Register}
-use Rattle.model.specs.Rulings.{Effect}
-use Rattle.model.specs.Requests.{outcome_of}
+use Rattle.model.specs.Rulings.{value, refused, Effect}
+use Rattle.model.specs.Requests.{refusal_number}
 use Rattle.model.specs.Revocation.{Change, raise, lower}
-use Rattle.slots.specs.declared.guards.Guarded.{Guarded}
-use Rattle.slots.specs.declared.guards.Guarded.TheVariants.{Pass, Refuse}
-use Rattle.sweeps.specs.declared.Sweep.{Sweep}
 use Rattle.sweeps.specs.Sweeping.{swept_by}
 use Rattle.tree.specs.declared.amending.Amendment.{Amendment}
+use Rattle.tree.specs.declared.comparing.Compared.{Compared}
 use Rattle.tree.specs.declared.orders.Order.{Order}
-use Rattle.tree.specs.declared.orders.Order.TheVariants.{Answered, Swept}
+use Rattle.tree.specs.declared.orders.Order.TheVariants.{Value, Sweep}
 
 -- what an order comes to
-abbrev pub order_effect : Register → Order → Effect Register
-order_effect r (Answered a) = record { answer = outcome_of a; after = r }
-order_effect r (Swept s) = swept_by r s
-
--- a call that is refused, or sweeps
-abbrev pub ordered_by : Guarded → Sweep → Order
-ordered_by Pass s = Swept s
-ordered_by (Refuse why) s = Answered (Refused why)
+abbrev pub order_effect : Register → Result Order Refusal → Effect Register
+order_effect r (Ok (Value v)) = record { answer = value v; after = r }
+order_effect r (Ok (Sweep s)) = swept_by r s
+order_effect r (Err why) = record { answer = refused (refusal_number why); after = r }
 
 -- ---- amend
 
@@ -30,3 +24,20 @@ ordered_by (Refuse why) s = Answered (Refused why)
 abbrev pub amendment_of : Change → ℕ → Amendment
 amendment_of (raise d) n = record { ranged = ltb d 65536; zero = eqb d 0; below = false; limit = n + d % 65536 }
 amendment_of (lower d) n = record { ranged = ltb d 65536; zero = eqb d 0; below = ltb n d; limit = n - d }
+
+-- ---- same
+
+-- what is compared, as the list of the model
+abbrev pub numbers_of : Compared → List ℕ
+numbers_of c =
+    c.domain
+    ∷ c.authority
+    ∷ c.first
+    ∷ c.last
+    ∷ c.use_limit
+    ∷ c.creation_limit
+    ∷ c.hop_limit
+    ∷ c.hours
+    ∷ c.places
+    ∷ c.devices
+    ∷ []

@@ -1,24 +1,9 @@
-// What a call over the whole tree comes to, before anything changes.
-ghost use Rattle.std.specs.Prelude.{◌≡◌};
-ghost use Rattle.tree.specs.Orders.{ordered_by};
-
-use model::Answer;
-use slots::guards::Guarded;
+// What a call over the whole tree comes to where no guard applies, before anything changes.
 use sweeps::Sweep;
 
-// An answer with the register as it was, or a sweep.
+// A value with the register as it was, or a sweep.
 #[derive(Clone, Copy)]
 pub enum Order {
-    Answered(Answer),
-    Swept(Sweep),
-}
-
-// A call that is refused, or sweeps.
-pub fn ordered(k: Guarded, s: Sweep) -> Order
-    ensures { result ≡ ordered_by k s }
-{
-    match k {
-        Guarded::Pass => Order::Swept(s),
-        Guarded::Refuse(why) => Order::Answered(Answer::Refused(why)),
-    }
+    Value(u32),
+    Sweep(Sweep),
 }

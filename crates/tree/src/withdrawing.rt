@@ -6,29 +6,31 @@ ghost use Rattle.slots.specs.Guards.{guarded, first_number};
 ghost use Rattle.model.specs.Administration.{withdrawing};
 ghost use Rattle.tree.specs.Orders.{order_effect};
 
-use crate::orders::{Order, ordered};
-use masks::{excluding32, member};
+use crate::orders::Order;
+use masks::{excluding, member};
 use model::{Refusal, Register, Role};
-use slots::guards::{Guarded, first};
+use slots::guards::ensure;
 use sweeps::Sweep;
 
-#[tactic(auto, using(slots::proofs::GuardLaws::test_unless, slots::proofs::GuardLaws::nothing_more))]
-fn withdraw_guards(x: Role, role: u32, permission: u32) -> Guarded
+#[tactic(auto, unfolding(slots::specs::Guards::first_number))]
+fn withdraw_guards(x: Role, role: u32, permission: u32) -> Result<(), Refusal>
     ensures { guarded result ≡ first_number (withdrawing x role permission).guards }
 {
-    let granted = member(x.permissions as u64, permission);
-    let k = first(!granted, Refusal::Unchanged, Guarded::Pass);
-    let k = first(!x.founded, Refusal::Missing, k);
-    first(!((role < 32) & (permission < 32)), Refusal::Range, k)
+    ensure(role < 32 && permission < 32, Refusal::Range)?;
+    ensure(x.founded, Refusal::Missing)?;
+    ensure(
+        member(u64::from(x.permissions), permission),
+        Refusal::Unchanged,
+    )
 }
 
-#[tactic(auto, using(crate::proofs::OrderLaws::order_by, crate::proofs::WithdrawLaws::withdraw_refused, crate::proofs::WithdrawLaws::withdraw_passed))]
-pub fn withdraw_order(r: Register, role: u32, permission: u32) -> Order
-    requires { T (well_formed r) }
-    ensures { order_effect r result ≡ settled r (withdraw role permission) }
+#[tactic(auto, using(crate::proofs::WithdrawLaws::withdraw_refused, crate::proofs::WithdrawLaws::withdraw_passed))]
+pub fn withdraw_order(r: &Register, role: u32, permission: u32) -> Result<Order, Refusal>
+    requires { T (well_formed r.now) }
+    ensures { order_effect r.now result ≡ settled r.now (withdraw role permission) }
 {
     let x = r.roles[(role % 32) as usize];
-    let k = withdraw_guards(x, role, permission);
-    let left = excluding32(x.permissions, permission % 32);
-    ordered(k, Sweep::Cut((role % 32) as u8, left))
+    withdraw_guards(x, role, permission)?;
+    let left = excluding(x.permissions, permission % 32);
+    Ok(Order::Sweep(Sweep::Cut((role % 32) as u8, left)))
 }

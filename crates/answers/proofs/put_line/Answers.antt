@@ -1,5 +1,11 @@
-use Rattle.answers.proofs.AnswerLaws.{end_fits, none_filled, none_printed, line-filled, line-printed}
+use Rattle.std.proofs.Common.{rules}
+use Rattle.answers.proofs.AnswerLaws.{line_filled, line_printed}
 use Rattle.answers.proofs.put_line.Goals as goal
 
 pub returns : goal.returns
-returns c = first_of ((search end_fits), (search (none_filled, none_printed)), (search (line-filled, line-printed)))
+returns c =
+    let w = c.args.word.now in
+    let s = c.args.s.now in (
+      line_filled w s c.args.n c.digit_count-end.result (search rules) c.digit_count-end.ensures c.if-s-end.false,
+      line_printed w s c.args.n c.digit_count-end.result (search rules) c.digit_count-end.ensures c.if-s-end.false _ _ c.copy_from_slice.ensures.after c.put_digits.ensures,
+    )

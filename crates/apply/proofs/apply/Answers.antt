@@ -1,8 +1,7 @@
-use borrow.Author.Rules.{rules}
 use mathlib.Core.Path.{sym, ◌∙◌}
 use Rattle.masks.proofs.Truth.{true→T}
 use Rattle.model.specs.Requests.{call_of}
-use Rattle.model.proofs.Settling.{step-settled, broken}
+use Rattle.model.proofs.Settling.{step-settled}
 use Rattle.apply.proofs.apply.Goals as goal
 
 pub returns-then-well_formed : goal.returns-then-well_formed

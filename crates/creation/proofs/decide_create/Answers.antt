@@ -21,14 +21,14 @@ returns c =
     let o = named_origin x.origin in
     let q = creating_on v x.columns.now o x.user x.origin x.at x.plan in
     c.settle.ensures q.guards q.result (with_created_slots v (suc v.count) (created_in o v.parent) q.after) tt
-    (create_agrees v x.columns.now x.user x.origin x.at x.plan c.create_guards-k.ensures c.origin_allows-a.ensures (search))
+    (create_agrees v x.columns.now x.user x.origin x.at x.plan c.create_guards-guards.ensures c.origin_allows-a.ensures (search))
     (λ g. (
       refl,
       rw (
         c.raised.ensures,
-        c.made-c.ensures,
+        c.made.ensures,
         made_exact x.user x.origin x.at x.plan (each← (create_ranges x.user o x.at x.plan) (passed 2 q.guards g)),
-        c.created_in-p.ensures,
+        c.created_in.ensures,
         c.origin_named-o.ensures,
         named_exact x.origin (passed 2 q.guards g).1.0,
         raised_below v.count 256 (passed 12 q.guards g).0,

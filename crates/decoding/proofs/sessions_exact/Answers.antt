@@ -7,5 +7,5 @@ use Rattle.decoding.proofs.sessions_exact.Goals as goal
 pub returns : goal.returns
 returns c =
     let l = c.loop-i in
-    let e : 64 - l.i ≡ 0 = omega arith in
-    sym (and-true l.exact) ∙ (rw e at l.invariant.2)
+    let e : 64 - l._i ≡ 0 = omega arith in
+    sym (and-true l.exact) ∙ (rw e at l.invariant.1)

@@ -6,7 +6,4 @@ use Rattle.decoding.specs.Exact.{exact_sessions}
 use Rattle.decoding.proofs.sessions_exact.Given as goal
 
 abbrev pub invariant-loop-i : goal.invariant-loop-i
-invariant-loop-i l = (l.i ≤ 64) × (l.at ≤ l.from + 6 * l.i) × ((l.exact && exact_sessions l.m (64 - l.i) (drop l.at l.s)) ≡ exact_sessions l.mask 64 (drop l.from l.s))
-
-abbrev pub decreases-loop-i : goal.decreases-loop-i
-decreases-loop-i l = 64 - l.i
+invariant-loop-i l = (l.at ≤ l.from + 6 * l._i) × ((l.exact && exact_sessions l.left (64 - l._i) (drop l.at l.s)) ≡ exact_sessions l.mask 64 (drop l.from l.s))

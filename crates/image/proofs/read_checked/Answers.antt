@@ -8,5 +8,5 @@ well_formed_read-formed-requires c = read_blank c.args.s.now _ c.read_image-read
 pub returns : goal.returns
 returns c =
     let read = c.read_image-read in
-    let formed = c.well_formed_read-formed in
-    (sym (load_tested c.args.s.now _ read.ensures.0 read.ensures.2 formed.result read.result.exact formed.ensures read.ensures.1), read.ensures.0)
+    let tested = load_tested c.args.s.now _ read.ensures.0 read.ensures.2 _ _ c.well_formed_read-formed.ensures read.ensures.1 in
+    (sym (rw (← c.is_empty.ensures) at tested), read.ensures.0)

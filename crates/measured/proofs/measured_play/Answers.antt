@@ -1,4 +1,3 @@
-use borrow.Author.Rules.{rules}
 use mathlib.Core.Path.{◌∙◌}
 use Rattle.measured.proofs.Laws.{not_played, is_played}
 use Rattle.measured.proofs.measured_play.Goals as goal
@@ -14,5 +13,5 @@ returns c =
     let a = c.args in
     let load = c.load-loaded in
     let journal = c.journal in
-    let same = is_played a.image.now a.lines.now a.out.now _ load.result load.ensures _ c.in-Value.is in
+    let same = is_played a.image.now a.lines.now a.out.now _ load.result load.ensures _ c.in-Ok.is in
     (journal.ensures.0 ∙ same.0, journal.ensures.1 ∙ same.1)

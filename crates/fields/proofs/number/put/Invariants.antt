@@ -4,6 +4,3 @@ use Rattle.fields.proofs.number.put.Given as goal
 
 abbrev pub invariant-loop-i : goal.invariant-loop-i
 invariant-loop-i l = DigitsFrom byte_digits l.k l.n l.initial.s l.s l.i l.x
-
-abbrev pub decreases-loop-i : goal.decreases-loop-i
-decreases-loop-i l = l.i

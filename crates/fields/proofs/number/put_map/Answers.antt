@@ -1,10 +1,9 @@
 use mathlib.Core.Path.{◌∙◌}
 use native.Mathlib.Omega.{arith}
-use lib.ListN.{length-set}
 use Rattle.fields.proofs.Parts.{map_turn}
 use Rattle.fields.proofs.number.put_map.Goals as goal
 
 pub loop-i-preserved : goal.loop-i-preserved
 loop-i-preserved c =
     let l = c.loop-i in
-    (omega arith, map_turn l.i c.args.k l.x l.s (omega arith) (omega arith) ∙ l.invariant.1, simp length-set l.invariant.2)
+    map_turn l.i c.args.k l.x l.s (omega arith) (omega arith) ∙ l.invariant

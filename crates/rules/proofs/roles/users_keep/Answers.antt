@@ -1,12 +1,6 @@
-use mathlib.Core.Path.{ap, ◌∙◌}
 use native.Mathlib.Omega.{arith}
-use lib.ListN.{get_or}
-use Rattle.masks.specs.Tests.{all_below}
-use Rattle.model.specs.Rules.{user_keeps}
+use Rattle.rules.proofs.Laws.{all_done}
 use Rattle.rules.proofs.roles.users_keep.Goals as goal
 
 pub returns : goal.returns
-returns c =
-    let a = c.args in
-    c.loop-i.invariant.1
-    ∙ ap (λ n. all_below n (λ u. user_keeps a.enrolled u (get_or a.domains.now u 0))) {x = c.loop-i.i} {y = 64} (omega arith)
+returns c = all_done _ _ _ c.loop-u.invariant (omega arith) (omega arith)

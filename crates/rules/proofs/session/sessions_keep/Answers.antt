@@ -1,28 +1,18 @@
 use mathlib.Core.Bool.{◌&&◌}
 use mathlib.Core.Path.{ap, ◌∙◌}
-use Prim.Native.Nat.{◌%◌}
 use native.Mathlib.Omega.{arith}
-use borrow.Author.Rules.{rules}
-use Rattle.masks.specs.Tests.{all_below}
-use Rattle.model.specs.Rules.{session_keeps}
 use Rattle.model.specs.State.{session_at}
-use Rattle.origins.proofs.Laws.{held_placed}
-use Rattle.rules.proofs.Laws.{all_more}
+use Rattle.rules.proofs.Laws.{all_more, all_done}
 use Rattle.rules.proofs.Agreement.{session_agrees}
 use Rattle.rules.proofs.session.sessions_keep.Goals as goal
 
-pub loop-i-preserved : goal.loop-i-preserved
-loop-i-preserved c =
-    let r = c.args.r in (
-      search rules,
-      all_more c.loop-i.i _ c.loop-i.invariant.1
-          (ap (λ t. c.loop-i.ok && t)
-          (c.session_keeps-ok.ensures
-          ∙ session_agrees r.enrolled r.roles r.count r.capabilities c.loop-i.i (c.role_held.result % 32) c.capability_held.result 0 0 (session_at r.sessions c.loop-i.i) _ _ (held_placed (session_at r.sessions c.loop-i.i).on _ _ (search) (search) (omega arith)) (c.present_in-there.ensures _) (search))),
-    )
+pub loop-s-preserved : goal.loop-s-preserved
+loop-s-preserved c =
+    let r = c.args.r.now in
+    let l = c.loop-s in
+    all_more l.s-index _ l.invariant
+    (ap (λ t. l.ok && t)
+    (c.session_keeps-ok.ensures ∙ session_agrees r l.s-index 0 0 (session_at r.sessions l.s-index) _ _ _ c.party_at-party.ensures c.present.ensures c.allows.ensures))
 
 pub returns : goal.returns
-returns c =
-    let r = c.args.r in
-    c.loop-i.invariant.1
-    ∙ ap (λ n. all_below n (λ n. session_keeps r.enrolled r.roles r.count r.capabilities n (session_at r.sessions n))) {x = c.loop-i.i} {y = 64} (omega arith)
+returns c = all_done _ _ _ c.loop-s.invariant (omega arith) (omega arith)

@@ -5,6 +5,6 @@ use Rattle.terminal.proofs.transfer.drain.Given as goal
 
 abbrev pub invariant-loop : goal.invariant-loop
 invariant-loop g l = record {
-  in_bounds : l.at ≤ length l.bytes;
-  bytes : Appends (g.W.Write.contents l.initial.output) (g.W.Write.contents l.output) (take l.at l.bytes);
+  in_bounds : l.count ≤ length l.bytes;
+  bytes : Appends (g.W.Write.contents l.initial.output) (g.W.Write.contents l.output) (take l.count l.bytes);
 }

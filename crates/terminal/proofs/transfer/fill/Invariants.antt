@@ -5,6 +5,6 @@ use Rattle.terminal.proofs.transfer.fill.Given as goal
 
 abbrev pub invariant-loop : goal.invariant-loop
 invariant-loop g l = record {
-  in_bounds : l.at ≤ length l.room;
-  bytes : Consumes (g.R.Read.remaining l.initial.input) (g.R.Read.remaining l.input) (take l.at l.room);
+  in_bounds : l.count ≤ length l.room;
+  bytes : Consumes (g.R.Read.remaining l.initial.input) (g.R.Read.remaining l.input) (take l.count l.room);
 }

@@ -1,5 +1,0 @@
-use Rattle.fields.proofs.Putting.{fields_step}
-use Rattle.fields.proofs.field.put_all.Goals as goal
-
-pub loop-i-preserved : goal.loop-i-preserved
-loop-i-preserved c = fields_step c.loop-i.invariant (search) c.put_field-n.ensures (search)

@@ -1,9 +1,0 @@
-use Rattle.fields.proofs.Parts.{NumberTo}
-use Prim.Native.Nat.{◌-◌}
-use Rattle.fields.proofs.number.get_within.Given as goal
-
-abbrev pub invariant-loop-i : goal.invariant-loop-i
-invariant-loop-i l = NumberTo l.s l.at l.k l.x l.i
-
-abbrev pub decreases-loop-i : goal.decreases-loop-i
-decreases-loop-i l = l.k - l.i

@@ -1,6 +1,0 @@
-use mathlib.Core.Path.{refl}
-use Rattle.slots.proofs.GuardLaws.{test_unless, nothing_more}
-use Rattle.tree.proofs.comparing.same_guards.Goals as goal
-
-pub returns : goal.returns
-returns c = test_unless _ _ _ _ _ c.first.ensures refl refl (test_unless _ _ _ _ _ (search) refl refl nothing_more)
