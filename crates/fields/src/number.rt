@@ -1,7 +1,6 @@
 // Numbers and maps as bytes, written at the front of a part and read from any place.
 ghost use Rattle.std.specs.Prelude.{◌≡◌, ◌+◌, ◌<◌, ◌≤◌, length, take, drop, get_or};
 ghost use Rattle.masks.specs.Bytes.{bytes_of, number_of, map_bytes, mask_of, first_bytes, front};
-ghost use Rattle.std.specs.Fn.{FnReturnsAt};
 
 // Writes n as k bytes, high byte first, at the front of s.
 #[tactic(auto, using(buffers::proofs::Digits::DigitsFrom, buffers::proofs::Digits::digits_start, buffers::proofs::Digits::digits_step, buffers::proofs::Digits::digits_done, crate::proofs::Parts::byte_digits))]
@@ -64,33 +63,21 @@ fn mask_of(s: &[u8]) -> u64
     x
 }
 
-// The 8 bytes from `at` on, 0 for each past the end.
-#[tactic(auto, using(crate::proofs::Parts::first_turn, crate::proofs::Parts::fill_done))]
-fn padded(s: &[u8], at: usize) -> [u8; 8]
-    requires { at < 65536 }
-    ensures { result ≡ first_bytes 8 (drop at s.now) }
-{
-    let mut bytes = [0; 8];
-    for i in 0..8 {
-        bytes[i] = byte_at(s, at + i) as u8;
-    }
-    bytes
-}
-
-// What `read` makes of the k bytes from `at` on, 0 for each past the end. The bounds on `at` and k stand as clauses here and where they
-// are asked for: a cursor that kept them would be made anew for each field.
+// The number in the first k bytes, not all of which need be there: those past the end are 0, which a shift gives.
+#[tactic(auto, using(crate::proofs::Window::number_cut))]
 #[cold]
 #[inline(never)]
-fn read_past<F: Fn(&[u8]) -> u64>(s: &[u8], at: usize, k: usize, read: F) -> u64
-    requires here { (at < 65536) × (k ≤ 8) }
-    requires reads { (part : _) → length part.now ≤ 8 → F.pre read part }
-    ensures { FnReturnsAt F.Fn read (first_bytes k (drop at s.now)) result }
+fn number_past(s: &[u8], k: usize) -> u64
+    requires { (0 < length s.now) × (k ≤ 8) }
+    ensures { result ≡ number_of (first_bytes k s.now) }
 {
-    read(&padded(s, at)[..k])
+    let n = k.min(s.len());
+    number_of(&s[..n]) << (8 * (k - n))
 }
 
-// The number in the k bytes from `at` on. Bytes past the end are 0; where 8 are there, they are read at once.
-#[tactic(auto, using(crate::proofs::Window::number_window))]
+// The number in the k bytes from `at` on. Bytes past the end are 0; where 8 are there, they are read at once. The bounds on `at` and k
+// stand as clauses: a cursor that kept them would be made anew for each field.
+#[tactic(auto, using(crate::proofs::Window::number_window, crate::proofs::Window::number_none))]
 #[inline(always)]
 pub fn get_at(s: &[u8], at: usize, k: usize) -> u64
     requires { (at < 65536) × (k ≤ 8) }
@@ -101,13 +88,15 @@ pub fn get_at(s: &[u8], at: usize, k: usize) -> u64
     }
     if at + 8 <= s.len() {
         number_of(&s[at..at + 8]) >> (64 - 8 * k)
+    } else if at < s.len() {
+        number_past(&s[at..], k)
     } else {
-        read_past(s, at, k, number_of)
+        0
     }
 }
 
 // The mask of the map of k bytes from `at` on. Bytes past the end are 0; of an image there are none, so the end is asked for once.
-#[tactic(auto, using(crate::proofs::Parts::part_there))]
+#[tactic(auto, using(crate::proofs::Parts::part_there, crate::proofs::Window::mask_cut, crate::proofs::Window::mask_none))]
 #[inline(always)]
 pub fn get_map(s: &[u8], at: usize, k: usize) -> u64
     requires { (at < 65536) × (k ≤ 8) }
@@ -115,7 +104,9 @@ pub fn get_map(s: &[u8], at: usize, k: usize) -> u64
 {
     if at + k <= s.len() {
         mask_of(&s[at..at + k])
+    } else if at < s.len() {
+        mask_of(&s[at..])
     } else {
-        read_past(s, at, k, mask_of)
+        0
     }
 }
