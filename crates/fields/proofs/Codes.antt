@@ -3,7 +3,7 @@ use mathlib.Core.Path.{◌≡◌, refl, ap, ◌∙◌}
 use mathlib.Core.List.{List, [], ◌∷◌, ◌++◌}
 use Prim.Native.Nat.{ℕ, zero, suc, ◌+◌, ◌-◌, ◌*◌, ◌/◌, ◌%◌, ◌^◌, ◌≤◌, ◌<◌}
 use native.Mathlib.Nat.{pow-suc, one-mul, one-le-pow, not-suc-le-zero, le_of_suc-le-suc}
-use native.Mathlib.Numerals.{add-one}
+use native.Mathlib.Numerals.{add-one, sub-one}
 use native.Mathlib.Omega.{arith}
 use mathlib.Core.Bool.{Bool, true, false, not}
 use lib.Dec.{T, leb, eqb, leb→le, lit<}
@@ -92,6 +92,10 @@ set_from (suc v) = rw (ne_eqb (suc v) 0 (λ z. omega arith)) refl
 pub bit_from : (b : Bool) → from_bool b ≡ bit b
 bit_from true = refl
 bit_from false = refl
+
+pub map-step : (f : List ℕ) (i : ℕ) → 0 < i → i ≤ length f → field_map (drop (i - 1) f) ≡ is_set (get_or f (i - 1) 0) + 2 * field_map (drop i f)
+map-step f zero h hi = absurd (not-suc-le-zero h)
+map-step f (suc m) h hi = rw sub-one (ap field_map (drop-cons f m 0 hi))
 
 pub map_below : (f : List ℕ) (i : ℕ) → length f ≤ 16 → field_map (drop i f) < 65536
 map_below f i h =

@@ -54,7 +54,17 @@ first_step k zero (b ∷ s) = refl
 first_step k (suc p) [] = rw add-one refl
 first_step k (suc p) (b ∷ s) = first_step k p s ∙ rw (add-one, add-one)
 
--- a turn of the loop that copies k bytes
+-- a turn of a loop that makes a number of k bytes
+pub past_turn : (s : List ℕ) (at k i x : ℕ) → i < k
+    → number_from x (first_bytes (k - i) (drop (at + i) s)) ≡ number_from (x * 256 + get_or s (at + i) 0) (first_bytes (k - (i + 1)) (drop (at + (i + 1)) s))
+past_turn s at k i x h =
+    let e : k - i ≡ suc (k - (i + 1)) = omega arith in
+    let a : at + i + 1 ≡ at + (i + 1) = omega arith in
+    ap (λ (j : ℕ). number_from x (first_bytes j (drop (at + i) s))) e
+    ∙ ap (number_from x) (first_step (k - (i + 1)) (at + i) s)
+    ∙ ap (λ (j : ℕ). number_from (x * 256 + get_or s (at + i) 0) (first_bytes (k - (i + 1)) (drop j s))) a
+
+-- a turn of a loop that copies k bytes
 pub first_turn : (s f : List ℕ) (at k i v : ℕ) (whole : List ℕ) → i < k → i < length f → v ≡ get_or s (at + i) 0
     → take i f ++ first_bytes (k - i) (drop (at + i) s) ≡ whole
     → take (i + 1) (set f i v) ++ first_bytes (k - (i + 1)) (drop (at + (i + 1)) s) ≡ whole
