@@ -1,6 +1,10 @@
-// Maps of fields, which say which of a record's fields are there.
+// Maps of fields, which say which of a record's fields are there, and those fields written.
 ghost use Rattle.std.specs.Prelude.{◌≡◌, ◌*◌, ◌<◌, ◌≤◌, length};
+ghost use Rattle.masks.specs.Bytes.{front};
 ghost use Rattle.model.specs.Fields.{field_map};
+ghost use Rattle.fields.specs.Codes.{codings, write_marked};
+
+use crate::coding::Coding;
 
 // w where the bit is set, else 0. No plainer as a product, which would have to be shown to fit.
 pub fn if_set(bit: u64, w: usize) -> usize
@@ -21,4 +25,19 @@ pub fn field_map(values: &[u64]) -> u64
         map = map * 2 + u64::from(values[i] != 0);
     }
     map
+}
+
+// Writes the fields whose bit of the map is set, one after another, however many and wide they are; the bytes written.
+#[inline(always)]
+pub fn put_marked(s: &mut [u8], map: u64, fields: &[Coding], values: &[u64]) -> usize
+    requires { (length fields.now ≡ length values.now) × (length (write_marked map (codings fields.now) values.now) ≤ length s.old) }
+    ensures { (result ≡ length (write_marked map (codings fields.now) values.now)) × (s.new ≡ front (write_marked map (codings fields.now) values.now) s.old) }
+{
+    let mut at = 0;
+    let mut bits = map;
+    for (i, coding) in fields.iter().enumerate() {
+        at += coding.put_if(bits % 2, &mut s[at..], values[i]);
+        bits /= 2;
+    }
+    at
 }

@@ -5,7 +5,7 @@ ghost use Rattle.model.specs.Fields.{read_present, present_length};
 ghost use Rattle.fields.specs.Codes.{codings, narrow, write_marked};
 
 use crate::coding::Coding;
-use crate::field::if_set;
+use crate::field::{if_set, put_marked};
 
 // The map of all fields of a record.
 pub const ALL: u64 = 0xffff;
@@ -24,13 +24,7 @@ impl<const N: usize> Layout<N> {
         requires { length (write_marked map (codings self.now.codings) values.now) ≤ length s.old }
         ensures { (result ≡ length (write_marked map (codings self.now.codings) values.now)) × (s.new ≡ front (write_marked map (codings self.now.codings) values.now) s.old) }
     {
-        let mut at = 0;
-        let mut bits = map;
-        for (i, coding) in self.codings.iter().enumerate() {
-            at += coding.put_if(bits % 2, &mut s[at..], values[i]);
-            bits /= 2;
-        }
-        at
+        put_marked(s, map, &self.codings, values)
     }
 
     // The fields from `from` on whose bit of the map is set, and 0 for the others; where they end.
