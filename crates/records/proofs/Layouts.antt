@@ -1,10 +1,10 @@
 -- What is written and read by the code's layouts is what the definitions say of each record.
 use mathlib.Core.Path.{◌≡◌, refl, sym, ap, ◌∙◌}
 use mathlib.Core.Bool.{◌&&◌}
-use mathlib.Core.List.{List, ◌++◌}
-use Prim.Native.Nat.{ℕ, ◌+◌, ◌-◌, ◌≤◌}
+use mathlib.Core.List.{List, [], ◌∷◌, ◌++◌}
+use Prim.Native.Nat.{ℕ, suc, ◌+◌, ◌-◌, ◌≤◌}
 use native.Mathlib.Omega.{arith}
-use lib.Dec.{eqb, ltb}
+use lib.Dec.{T, eqb, ltb}
 use lib.ListN.{length, drop, get_or, length-append}
 use lib.Seq.{drop-drop}
 use borrow.Rule.Slice.PartMut.{put_mid}
@@ -13,7 +13,9 @@ use Rattle.model.specs.declared.Role.{Role}
 use Rattle.model.specs.declared.Capability.{Capability}
 use Rattle.model.specs.declared.Session.{Session}
 use Rattle.model.specs.Fields.{Coding, field_map, write_all, read_all, write_present, read_present, present_length, role_codings, role_fields, write_role, role_of, read_role, session_codings, session_fields, write_session, session_of, read_session, head_codings, head_fields, capability_codings, capability_fields, write_capability, capability_of, read_head, read_capability, capability_length}
-use Rattle.fields.specs.Codes.{Bytes, Fitted, write_marked}
+use Rattle.fields.specs.declared.coding.Coding.{Coding as Coded}
+use Rattle.fields.specs.declared.layout.Layout.{Layout}
+use Rattle.fields.specs.Codes.{Bytes, Fitted, codings, narrow, write_marked}
 use Rattle.records.specs.Exact.{exact_capability}
 use Rattle.fields.proofs.Parts.{parts_written}
 use Rattle.fields.proofs.Putting.{Put}
@@ -21,6 +23,18 @@ use Rattle.fields.proofs.Codes.{write_full, read_full, write_map}
 use Rattle.fields.proofs.Reading.{bytes_drop, fitted_all, fitted_present}
 use Rattle.fields.proofs.Fields.{present_length_lem}
 use Rattle.records.proofs.Records.{head_size, capability_small}
+
+-- as many codings as the layout has
+pub length_codings : (cs : List Coded) → length (codings cs) ≡ length cs
+length_codings [] = refl
+length_codings (c ∷ cs) = ap suc (length_codings cs)
+
+-- a layout whose codings are n that are known has n, few and narrow, so that they may be read
+pub says_table : {n : ℕ} {cs : List Coding} (t : Layout n) → codings t.codings ≡ cs → length cs ≡ n
+    → (length t.codings ≡ n) × (length t.codings ≤ 16) × T (narrow t.codings)
+says_table {n} {cs} t e en =
+    let l : length t.codings ≡ n = sym (length_codings t.codings) ∙ ap length e ∙ en in
+    (l, omega (arith, l, t.few), t.narrow)
 
 -- no record has more than 16 fields
 abbrev Few : List Coding → Type 0
