@@ -22,6 +22,10 @@ module _ {A : Type 0} (w : ℕ) (write : A → List ℕ) (m : ℕ) (l : List A) 
   unfolding mapped
   mapped_size = length-append (map_bytes w m) (write_chosen write m l) ∙ rw length-map
 
+  -- a buffer with room for the section has it for the map and the items
+  pub mapped_room : {k : ℕ} (n : ℕ) → m ≡ k → length (mapped w write k l) ≤ n → w + length (write_chosen write m l) ≤ n
+  mapped_room n e h = omega (arith, mapped_size, rw (← e) at h)
+
   pub mapped_written : (s : List ℕ) {t last : List ℕ} {q : ℕ} → w + length (write_chosen write m l) ≤ length s → t ≡ front (map_bytes w m) s
       → Put (write_chosen write m l) w t q last → (w + q ≡ length (mapped w write m l)) × (put_mid w (length t - w) t last ≡ front (mapped w write m l) s)
   unfolding mapped
