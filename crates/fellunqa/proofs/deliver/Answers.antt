@@ -39,6 +39,6 @@ returns c =
       c.put.ensures
           ∙ ap (front (bytes_of 2 n)) after
           ∙ head_last (bytes_of 2 n) (encode a.formed.register) out 2 refl two
-          ∙ ap (λ (k : ℕ). front (bytes_of 2 k ++ encode a.formed.register) out) (c.from.ensures ∙ said.0)
+          ∙ ap (λ (k : ℕ). front (bytes_of 2 k ++ encode a.formed.register) out) (omega (arith, c.from.ensures, said.0))
           ∙ same.1,
     )
