@@ -69,7 +69,7 @@ module _ {s : List ℕ} {from n : ℕ} {rows : List Capability} {exact : Bool} {
 -- ---- from the count on, which stands at `at`
 
 -- the register with what comes before the count
-abbrev register_from : ℕ → ℕ → List ℕ → List Role → List ℕ → Register
+abbrev pub register_from : ℕ → ℕ → List ℕ → List Role → List ℕ → Register
 register_from clock enrolled domains roles passes =
     let count : ℕ = number_of (first_bytes 2 passes) in
     let sessions : List ℕ = after_capabilities (min 256 count) (drop 2 passes) in
@@ -84,7 +84,7 @@ register_from clock enrolled domains roles passes =
     }
 
 -- each record is exact, and the last ends with the image
-abbrev exact_from : ℕ → ℕ → List ℕ → Bool
+abbrev pub exact_from : ℕ → ℕ → List ℕ → Bool
 exact_from at size passes =
     let n : ℕ = min 256 (number_of (first_bytes 2 passes)) in
     let sessions : List ℕ = after_capabilities n (drop 2 passes) in

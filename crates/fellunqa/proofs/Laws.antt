@@ -62,10 +62,10 @@ module _ (line : List ℕ) (n : ℕ) (e : n ≡ length (before 10 line)) where
   parts h =
       split-before 10 line ∙ ap (λ (k : ℕ). before 10 line ∷ after 10 (drop k line)) (sym e) ∙ ap (λ (ws : List (List ℕ)). before 10 line ∷ ws) h
 
-  line-unended : n ≡ length line → none ≡ sole_line (split 10 line)
+  pub line-unended : n ≡ length line → none ≡ sole_line (split 10 line)
   line-unended h = let end : length line ≤ n = omega arith in ap sole_line (sym (parts (after_end 10 line n end)))
 
-  line_followed : n + 1 < length line → none ≡ sole_line (split 10 line)
+  pub line_followed : n + 1 < length line → none ≡ sole_line (split 10 line)
   line_followed h =
       let more : n < length line = omega arith in
       let next : suc n < length line = omega arith in
