@@ -1,5 +1,5 @@
 -- The first number of a list of guards, and what a settled call comes to by it.
-use mathlib.Core.Path.{◌≡◌, refl, sym, ap, ◌∙◌}
+use mathlib.Core.Path.{◌≡◌, refl, sym, ap, ap₂, ◌∙◌}
 use mathlib.Core.Bool.{Bool, true, false, cond, not}
 use mathlib.Core.List.{List, [], ◌∷◌}
 use Prim.Native.Nat.{ℕ, suc, ◌<◌}
@@ -8,21 +8,47 @@ use lib.Dec.{T, ltb, ltb→lt}
 use Rattle.std.specs.Prelude.{⊤, Result, Ok, Err}
 use Rattle.std.specs.Int.{from_bool}
 use Rattle.masks.specs.Tests.{each}
-use Rattle.masks.proofs.Truth.{T→true, and_l, and_r}
+use Rattle.masks.proofs.Truth.{T→true, and_l, and_r, from_left, left_each}
 use Rattle.model.specs.declared.Refusal.{Refusal}
 use Rattle.model.specs.Rulings.{Outcome, value, refused, Guard, ◌unless◌, applies, number, settle, Fact, Clear, verdict}
 use Rattle.model.specs.Requests.{refusal_number}
 use Rattle.model.proofs.Settling.{fact, clear_verdict, clear_settle, answer_refused}
 use Rattle.slots.specs.Guards.{guarded, first_number, numbered, raised_of}
 
+-- ---- one test of a chain, and the tests after it
+
+pub test_when : (g : Guard) (gs : List Guard) (t : Bool) {q k n : ℕ} → q ≡ cond t n k → t ≡ applies g → n ≡ number g → k ≡ first_number gs
+    → q ≡ first_number (g ∷ gs)
+unfolding first_number
+test_when g gs t {q} {k} {n} p s m e = p ∙ ap₂ (λ (b : Bool) (x : ℕ). cond b n x) s e ∙ ap (λ (x : ℕ). cond (applies g) x (first_number gs)) m
+
+pub nothing_more : 0 ≡ first_number []
+unfolding first_number
+nothing_more = refl
+
+-- a guard with `unless`, whose tests code joins from the left
+pub test_unless : (m : ℕ) (a : Bool) (bs : List Bool) (gs : List Guard) (t : Bool) {q k n : ℕ} → q ≡ cond t n k → t ≡ not (from_left (a ∷ bs)) → n ≡ m → k ≡ first_number gs
+    → q ≡ first_number ((m unless (a ∷ bs)) ∷ gs)
+test_unless m a bs gs t p s e h = test_when (m unless (a ∷ bs)) gs t p (s ∙ ap not (left_each (a ∷ bs))) e h
+
 -- what comes after the test of the ranges need agree only where it passes
+pub test_ranged : (m : ℕ) (ts : List Bool) (gs : List Guard) (t : Bool) {q k n : ℕ} → q ≡ cond t n k → t ≡ not (each ts) → n ≡ m → (T (each ts) → k ≡ first_number gs)
+    → q ≡ first_number ((m unless ts) ∷ gs)
+unfolding first_number
+test_ranged m ts gs t {q} {k} {n} p s e h = p ∙ ap₂ (λ (b : Bool) (x : ℕ). cond b x k) s e ∙ cases (each ts) h
+  where
+    cases : (b : Bool) → (T b → k ≡ first_number gs) → cond (not b) m k ≡ cond (not b) m (first_number gs)
+    cases true f = f tt
+    cases false f = refl
+
 pub ranged_same : (m : ℕ) (ts : List Bool) (gs hs : List Guard) → (T (each ts) → gs ≡ hs) → first_number ((m unless ts) ∷ gs) ≡ first_number ((m unless ts) ∷ hs)
 unfolding first_number
-ranged_same m ts gs hs h = cases (each ts) h
-  where
-    cases : (b : Bool) → (T b → gs ≡ hs) → cond (not b) m (first_number gs) ≡ cond (not b) m (first_number hs)
-    cases true f = ap first_number (f tt)
-    cases false f = refl
+ranged_same m ts gs hs h = test_ranged m ts hs (not (each ts)) refl refl refl (λ t. ap first_number (h t))
+
+-- a guard whose tests the machine's types pass, so that code need not ask them
+pub known : (m : ℕ) (ts : List Bool) (gs : List Guard) {q : ℕ} → T (each ts) → q ≡ first_number gs → q ≡ first_number ((m unless ts) ∷ gs)
+unfolding first_number
+known m ts gs h e = e ∙ ap (λ (b : Bool). cond (not b) m (first_number gs)) {x = true} {y = each ts} (sym (T→true (each ts) h))
 
 -- ---- what a decision comes to
 

@@ -12,10 +12,11 @@ use Rattle.model.specs.declared.Refusal.{Refusal}
 use Rattle.model.specs.declared.Register.{Register}
 use Rattle.model.specs.State.{capability_at, origin_at, role_at}
 use Rattle.model.specs.Rules.{well_formed}
-use Rattle.model.specs.Rulings.{Clear, value, refused}
+use Rattle.model.specs.Rulings.{Outcome, Effect, Clear, verdict, value, refused}
 use Rattle.model.specs.Comparison.{domain_of, constraints, compared, alike, same_guards, same_ruling}
 use Rattle.model.specs.Requests.{refusal_number}
 use Rattle.model.specs.Calls.{same, ruling, settled}
+use Rattle.model.proofs.Settling.{settle_same}
 use Rattle.slots.specs.Guards.{guarded, first_number}
 use Rattle.slots.proofs.GuardLaws.{yes_number, pass_clear, refuse_ruled, pass_ruled}
 use Rattle.origins.specs.declared.authority.RoleColumns.{RoleColumns}
@@ -34,6 +35,13 @@ compared_is r formed columns kept n x a l ends of_c =
     (of_c ∙ authority_read columns r.roles kept (capability_at r.capabilities n))
 
 -- ---- the call
+
+-- an answer that changes nothing is the call's
+pub same_settled : (r : Register) (m n : ℕ) {q : Outcome} → q ≡ verdict (same_guards r.count m n) (cond (alike r m n) 1 0)
+    → ◌≡◌ {A = Effect Register} (record { answer = q; after = r }) (settled r (same m n))
+unfolding settled ruling same_ruling
+same_settled r m n e =
+    ap (λ (z : Outcome). record { answer = z; after = r }) e ∙ settle_same r (same_guards r.count m n) (cond (alike r m n) 1 0)
 
 module _ (r : Register) (m n : ℕ) (k : Result ⊤ Refusal) (checks : guarded k ≡ first_number (same_guards r.count m n)) where
   pub same_refused : {why : Refusal} → k ≡ Err why → record { answer = refused (refusal_number why); after = r } ≡ settled r (same m n)
