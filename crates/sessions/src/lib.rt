@@ -1,13 +1,14 @@
 // Sessions: open, check and close, decided over the elements that they name.
 #![tactic(auto)]
 
-ghost use Rattle.std.specs.Prelude.{◌≡◌, false, ◌%◌};
+ghost use Rattle.std.specs.Prelude.{◌≡◌, Bool, ◌%◌};
 ghost use Rattle.model.specs.State.{context_of};
 ghost use Rattle.model.specs.Requests.{outcome_of, named_origin};
 ghost use Rattle.model.specs.Sessions.{new_session, checking, closing};
+ghost use Rattle.origins.specs.Numbers.{named_in};
 ghost use Rattle.slots.specs.Guards.{guarded, first_number};
 ghost use Rattle.slots.specs.Slots.{ruled_of};
-ghost use Rattle.sessions.specs.Sessions.{close_decision, permits_in, check_answer, check_decision, opening_tests, open_decision};
+ghost use Rattle.sessions.specs.Sessions.{close_decision, permits_in, check_answer, check_decision, opening_on, opening_tests, open_decision};
 
 use masks::member;
 use model::{Answer, Capability, Context, Named, Origin, Refusal, Role, Session, blank_session};
@@ -45,7 +46,7 @@ pub fn decide_close(v: Slots, session: u32) -> Decision
 // The tests of check; they are the same whatever is permitted.
 #[tactic(auto, unfolding(slots::specs::Guards::first_number))]
 fn check_guards(s: Session, session: u32, permission: u32, at: Context) -> Result<(), Refusal>
-    ensures { guarded result ≡ first_number (checking s false session permission at).guards }
+    ensures { (permitted : Bool) → guarded result ≡ first_number (checking s permitted session permission at).guards }
 {
     ensure(
         session < 64 && permission < 32 && in_context(at),
@@ -125,7 +126,7 @@ pub fn decide_check(
 // ---- open
 
 // The tests of open: the origin o is read from its slot.
-#[tactic(auto, unfolding(slots::specs::Guards::first_number))]
+#[tactic(auto, using(crate::proofs::Commits::open_agrees), unfolding(slots::specs::Guards::first_number))]
 fn open_guards(
     v: Slots,
     o: Origin,
@@ -134,7 +135,8 @@ fn open_guards(
     on: Named,
     at: Context,
 ) -> Result<(), Refusal>
-    ensures { guarded result ≡ first_number (opening_tests v o session user on at) }
+    ensures tests { guarded result ≡ first_number (opening_tests v o session user on at) }
+    ensures ruled { o ≡ named_in on → guarded result ≡ first_number (opening_on v (named_origin on) session user at).guards }
 {
     let party = Party {
         origin: o,

@@ -6,7 +6,7 @@ use Rattle.slots.specs.Slots.{with_session_slots}
 use Rattle.slots.specs.Terms.{used_in}
 use Rattle.slots.proofs.CountLaws.{used-below}
 use Rattle.sessions.specs.Sessions.{opening_on, open_decision}
-use Rattle.sessions.proofs.Commits.{open_agrees, session_ranged}
+use Rattle.sessions.proofs.Commits.{session_ranged}
 use Rattle.sessions.proofs.decide_open.Goals as goal
 
 pub returns : goal.returns
@@ -17,7 +17,7 @@ returns c =
     let o = named_origin x.on in
     let q = opening_on v o x.session x.user x.at in
     c.settle.ensures q.guards 0 (with_session_slots v (used_in o v.capability) q.after) tt
-    (open_agrees v x.session x.user x.on x.at c.open_guards.ensures c.origin_named-o.ensures)
+    (c.open_guards.ensures.ruled c.origin_named-o.ensures)
     (λ g.
     let f = passed 2 q.guards g in (
       refl,
