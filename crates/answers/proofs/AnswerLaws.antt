@@ -5,7 +5,7 @@ use Prim.Native.Nat.{ℕ, zero, suc, ◌+◌, ◌-◌, ◌*◌, ◌/◌, ◌%◌
 use native.Mathlib.Nat.{pow-suc, le_refl}
 use native.Mathlib.Omega.{arith}
 use borrow.Author.Tests.{lt-ltb, le-ltb}
-use lib.ListN.{length, take, drop, set, length-append, length-drop, drop_of_length-le}
+use lib.ListN.{length, take, drop, get_or, set, length-append, length-drop, drop_of_length-le}
 use lib.Seq.{length-take-le}
 use borrow.Rule.Slice.PartMut.{put_mid}
 use Rattle.buffers.proofs.Parts.{placed, placed_append, placed_nil, placed_set, length_placed}
@@ -29,6 +29,27 @@ count_high (suc f) n = grind (arith, count_high f (n / 10))
 pub count_done : (f x : ℕ) → x < 10 → digit_count f x ≡ 1
 count_done zero x h = refl
 count_done (suc f) x h = rw (lt-ltb x 10 h)
+
+-- k digits counted, x left of the number, m the whole count and one
+pub record Counted (k x m : ℕ) : Type 0 where
+  pub low : 1 ≤ k
+  pub high : k ≤ 10
+  pub small : x < 10 ^ (11 - k)
+  pub sum : k + digit_count (10 - k) x ≡ m
+
+pub count_turn : (k x m : ℕ) → Counted k x m → 10 ≤ x → Counted (k + 1) (x / 10) m
+count_turn k x m h l = go (10 - k) refl
+  where
+    go : (f : ℕ) → 10 - k ≡ f → Counted (k + 1) (x / 10) m
+    go zero e = let a : 11 - k ≡ 1 = omega arith in let s : x < 10 = rw a at h.small in omega arith
+    go (suc f) e =
+        let a : 11 - k ≡ suc (10 - k) = omega arith in
+        let b : 11 - (k + 1) ≡ 10 - k = omega arith in
+        let d : 10 - (k + 1) ≡ f = omega arith in
+        let s : x < 10 ^ (10 - k) * 10 = rw (a, pow-suc) at h.small in
+        let c : digit_count (suc f) x ≡ suc (digit_count f (x / 10)) = rw (le-ltb x 10 l) in
+        let t : k + digit_count (suc f) x ≡ m = rw e at h.sum in
+        record { low = omega arith; high = omega arith; small = rw b (omega arith); sum = rw d (omega arith) }
 
 power_pos : (k : ℕ) → 1 ≤ 10 ^ k
 power_pos zero = omega arith
@@ -76,6 +97,15 @@ put_placed a k s d e = ap (λ (j : ℕ). take a s ++ (d ++ drop j (drop a s))) (
 set_placed : (i v : ℕ) (s : List ℕ) → i < length s → set s i v ≡ placed i (v ∷ []) s
 set_placed i v s h = sym (placed_nil (i + 1) (set s i v)) ∙ placed_set i v [] s h
 
+-- the two letters of a word stored one by one
+two_set : (w s : List ℕ) → length w ≡ 2 → 2 ≤ length s → set (set s 0 (get_or w 0 0)) 1 (get_or w 1 0) ≡ w ++ drop 2 s
+two_set [] s e h = absurd (omega arith)
+two_set (x ∷ []) s e h = absurd (omega arith)
+two_set (x ∷ y ∷ z ∷ w) s e h = absurd (omega arith)
+two_set (x ∷ y ∷ []) [] e h = absurd (omega arith)
+two_set (x ∷ y ∷ []) (a ∷ []) e h = absurd (omega arith)
+two_set (x ∷ y ∷ []) (a ∷ b ∷ s) e h = refl
+
 -- a line's four parts, each after the one before it
 line-written : (w s d : List ℕ) (n k : ℕ) → length w ≡ 2 → k ≡ digit_count 9 n → 3 + k < length s → d ≡ digits_of k n
     → placed (3 + k) (10 ∷ []) (placed 3 d (placed 2 (32 ∷ []) (placed 0 w s))) ≡ front (answer_line w n) s
@@ -102,15 +132,16 @@ module _ (w s : List ℕ) (n k : ℕ) (e : length w ≡ 2) (f : k ≡ digit_coun
   pub line_filled : 3 + k + 1 ≡ filled (answer_line w n) s
   line_filled = omega (arith, length-line w n e, filled_room (answer_line w n) s (omega (arith, length-line w n e)))
 
-  pub line_printed : (c d : List ℕ) → c ≡ w → (let s2 = set (c ++ drop 2 s) 2 32 in
+  pub line_printed : (d : List ℕ) → (let s2 = set (set (set s 0 (get_or w 0 0)) 1 (get_or w 1 0)) 2 32 in
       d ≡ digits_of (length (take (3 + k - 3) (drop 3 s2))) n → set (put_mid 3 (3 + k - 3) s2 d) (3 + k) 10 ≡ printed_into (answer_line w n) s)
-  line_printed c d q g =
+  line_printed d g =
       let s1 : List ℕ = placed 0 w s in
       let s2 : List ℕ = placed 2 (32 ∷ []) s1 in
       let k3 : 3 + k - 3 ≡ k = omega arith in
       let l1 : length s1 ≡ length s = length_placed 0 w s (omega arith) in
       let l2 : length s2 ≡ length s = length_placed 2 (32 ∷ []) s1 (omega arith) ∙ l1 in
-      let e2 : set (c ++ drop 2 s) 2 32 ≡ s2 = ap (λ (l : List ℕ). set l 2 32) (ap (λ (l : List ℕ). l ++ drop 2 s) q ∙ ap (λ (j : ℕ). w ++ drop j s) (sym e)) ∙ set_placed 2 32 s1 (omega arith) in
+      let e2 : set (set (set s 0 (get_or w 0 0)) 1 (get_or w 1 0)) 2 32 ≡ s2 =
+      ap (λ (l : List ℕ). set l 2 32) (two_set w s e (omega arith) ∙ ap (λ (j : ℕ). w ++ drop j s) (sym e)) ∙ set_placed 2 32 s1 (omega arith) in
       let lent : length (take (3 + k - 3) (drop 3 s2)) ≡ k = length-take-le (3 + k - 3) (drop 3 s2) (simp length-drop (omega arith)) ∙ k3 in
       let g2 : d ≡ digits_of k n = g ∙ ap (λ (l : List ℕ). digits_of (length (take (3 + k - 3) (drop 3 l))) n) e2 ∙ ap (λ (j : ℕ). digits_of j n) lent in
       let ld : length d ≡ k = ap length g2 ∙ length_digits decimal-digits k n in

@@ -12,10 +12,10 @@ use model::Answer;
 fn digit_count(n: u32) -> usize
     ensures { result ≡ digit_count 9 n }
 {
-    match n.checked_ilog10() {
-        Some(k) => k as usize + 1,
-        None => 1,
+    if n < 10 {
+        return 1;
     }
+    n.ilog10() as usize + 1
 }
 
 // Fills s with the last decimal digits of n, as many as it has bytes.
@@ -40,7 +40,8 @@ fn put_line(s: &mut [u8], word: &[u8; 2], n: u32) -> usize
     if s.len() <= end {
         return 0;
     }
-    s[..2].copy_from_slice(word);
+    s[0] = word[0];
+    s[1] = word[1];
     s[2] = b' ';
     put_digits(&mut s[3..end], n);
     s[end] = b'\n';

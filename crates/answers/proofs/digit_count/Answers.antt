@@ -3,8 +3,8 @@ use Rattle.std.proofs.Common.{arith}
 use mathlib.Core.Path.{sym}
 use Rattle.answers.proofs.digit_count.Goals as goal
 
-pub returns-in-Some : goal.returns-in-Some
-returns-in-Some c = sym (count_power 9 c.args.n c.in-Some.k (omega (arith, c.in-Some.ensures.bound)) c.in-Some.ensures.power_le c.in-Some.ensures.next_power_gt)
+pub returns-then-n-lt10 : goal.returns-then-n-lt10
+returns-then-n-lt10 c = sym (count_done 9 c.args.n c.if-n-lt10.true)
 
-pub returns-in-None : goal.returns-in-None
-returns-in-None c = sym (count_done 9 c.args.n (omega (arith, c.in-None.ensures.none)))
+pub returns : goal.returns
+returns c = sym (count_power 9 c.args.n c.ilog10.result (omega (arith, c.ilog10.ensures.bound)) c.ilog10.ensures.power_le c.ilog10.ensures.next_power_gt)

@@ -7,5 +7,5 @@ returns c =
     let w = c.args.word.now in
     let s = c.args.s.now in (
       line_filled w s c.args.n c.digit_count-end.result (search rules) c.digit_count-end.ensures c.if-s-end.false,
-      line_printed w s c.args.n c.digit_count-end.result (search rules) c.digit_count-end.ensures c.if-s-end.false _ _ c.copy_from_slice.ensures.after c.put_digits.ensures,
+      line_printed w s c.args.n c.digit_count-end.result (search rules) c.digit_count-end.ensures c.if-s-end.false _ c.put_digits.ensures,
     )
