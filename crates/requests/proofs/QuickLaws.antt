@@ -4,13 +4,10 @@ use mathlib.Core.Bool.{Bool, true}
 use mathlib.Core.List.{List, [], ◌∷◌, ◌++◌}
 use mathlib.Core.Option.{some}
 use Prim.Native.Nat.{ℕ, suc, ◌-◌}
-use lib.Dec.{eqb}
-use lib.ListN.{length, take, drop}
-use Rattle.std.specs.Cmp.Lexicographic.{pointwise}
-use Rattle.std.proofs.lemmas.Bool.Decides.{Decides-eqb}
-use Rattle.std.proofs.lemmas.Slice.Eq.{starts_is}
+use lib.ListN.{length, take, drop, take-append-drop}
 use Rattle.buffers.proofs.Parts.{tail}
-use Rattle.masks.specs.Bytes.{bytes}
+use Rattle.buffers.proofs.Comparing.{same_eq}
+use Rattle.masks.specs.Bytes.{bytes, same_bytes}
 use Rattle.model.specs.Calls.{check}
 use Rattle.model.specs.State.{context_of}
 use Rattle.model.specs.Lines.{nth, context_in, numbers, of_numbers, forms, parse}
@@ -29,7 +26,7 @@ number_then : (k n : ℕ) (ws rest : List (List ℕ)) (v : List ℕ) → some (n
 number_then k n ws rest v e h = numbers_front k ws ∙ rw (sym e, h)
 
 -- the whole line: the test b of its front, the five numbers, and the rest s after them
-module _ (line : List ℕ) (b : Bool) (front : b ≡ pointwise eqb (bytes "check ") (take 6 line)) (passed : b ≡ true) where
+module _ (line : List ℕ) (b : Bool) (front : b ≡ same_bytes (take 6 line) (bytes "check ")) (passed : b ≡ true) where
   pub check_right : (session permission hour place device : ℕ) (w1 w2 w3 w4 : List (List ℕ)) (s : List ℕ)
       → some (session, w1) ≡ first_number (after 32 (take (length line - 5) (drop 5 line)))
       → some (permission, w2) ≡ first_number w1
@@ -39,7 +36,8 @@ module _ (line : List ℕ) (b : Bool) (front : b ≡ pointwise eqb (bytes "check
       → length s ≡ 0
       → parse line ≡ some (check session permission (context_of hour place device))
   check_right session permission hour place device w1 w2 w3 w4 s e1 e2 e3 e4 e5 h =
-      let begins : line ≡ bytes "check " ++ drop 6 line = (starts_is Decides-eqb line (bytes "check ") b front).0 passed in
+      let same : take 6 line ≡ bytes "check " = same_eq (take 6 line) (bytes "check ") (sym front ∙ passed) in
+      let begins : line ≡ bytes "check " ++ drop 6 line = sym (take-append-drop 6 line) ∙ ap (λ (l : List ℕ). l ++ drop 6 line) same in
       let all : numbers 5 (after 32 (drop 5 line)) ≡ some (session ∷ permission ∷ hour ∷ place ∷ device ∷ []) =
       number_then 4 session (after 32 (drop 5 line)) w1 _ (rw tail at e1) (number_then 3 permission w1 w2 _ e2 (number_then 2 hour w2 w3 _ e3 (number_then 1 place w3 w4 _ e4
       (number_then 0 device w4 (after 32 s) _ e5 (ap (numbers 0) (after_empty 32 s h)))))) in

@@ -2,6 +2,7 @@
 // line, and of one whose numbers have more than two digits, nothing is said: `parse` reads those.
 ghost use Rattle.requests.specs.Quick.{Quickly};
 
+use buffers::same_bytes;
 use model::Context;
 use text::short::short_number;
 
@@ -9,7 +10,7 @@ use text::short::short_number;
 pub fn check_of(line: &[u8]) -> Option<(u32, u32, Context)>
     ensures { Quickly line.now result }
 {
-    if !line.starts_with(b"check ") {
+    if line.len() < 6 || !same_bytes(&line[..6], b"check ") {
         return None;
     }
     let (session, rest) = short_number(&line[5..])?;

@@ -3,6 +3,7 @@
 ghost use Rattle.std.specs.Prelude.{◌≡◌};
 ghost use Rattle.terminal.specs.Options.{asked};
 
+use buffers::same_bytes;
 use std::env::FillError;
 use std::rt::Env;
 
@@ -13,13 +14,12 @@ pub enum Wish {
     Unknown,
 }
 
-#[tactic(auto, using(buffers::proofs::Comparing::same_pointwise))]
 fn wish_of(word: &[u8]) -> Wish
     ensures { result ≡ asked word.now }
 {
-    if word == b"--help".as_slice() {
+    if same_bytes(word, b"--help") {
         Wish::Help
-    } else if word == b"--version".as_slice() {
+    } else if same_bytes(word, b"--version") {
         Wish::Version
     } else {
         Wish::Unknown

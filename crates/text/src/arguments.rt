@@ -6,17 +6,19 @@ ghost use Rattle.text.specs.Readers.{name_of, named_of, first_name, by_of, last_
 
 use crate::numbers::{read_decimal, read_number};
 use crate::parts::next_word;
+use buffers::same_bytes;
 use model::{Change, Named};
 
 // The role or the capability with the number n, by the word before the number.
-#[tactic(auto, using(buffers::proofs::Comparing::same_long))]
 fn name(kind: &[u8], n: u32) -> Option<Named>
     ensures { name_of result ≡ origin_in kind.now n }
 {
-    match kind {
-        b"role" => Some(Named::Role(n)),
-        b"pass" => Some(Named::Capability(n)),
-        _ => None,
+    if same_bytes(kind, b"role") {
+        Some(Named::Role(n))
+    } else if same_bytes(kind, b"pass") {
+        Some(Named::Capability(n))
+    } else {
+        None
     }
 }
 
