@@ -25,12 +25,18 @@ use Rattle.model.proofs.Settling.{step-settled, broken}
 use Rattle.model.proofs.Rules.{kept→, kept←}
 use Rattle.model.proofs.Running.{step_keeps}
 use Rattle.text.specs.Parts.{before}
+use Rattle.player.proofs.Room.{parse_short}
 use Rattle.player.proofs.Transcripts.{transcript-line, transcript_last}
 use Rattle.answers.specs.Writing.{printed_into, filled}
 use Rattle.answers.proofs.WriteLaws.{into_room, filled_room}
 use Rattle.player.specs.Play.{journal_length, journal_buffer}
 
 -- ---- one line
+
+-- one shorter than a request's word
+pub line_short : (r : Register) (line : List ℕ) → length line < 4 → record { answer = refused 1; after = r } ≡ line_effect r line
+unfolding line_effect
+line_short r line h = ap (requested r) (sym (parse_short line (omega (arith, h))))
 
 module _ (r : Register) (line : List ℕ) (q : Maybe Request) (e : parsed_call q ≡ parse line) where
   pub line_none : q ≡ None → record { answer = refused 1; after = r } ≡ line_effect r line

@@ -17,32 +17,28 @@ use Rattle.model.specs.Calls.{Call}
 use Rattle.model.specs.Lines.{Form, forms, by_word, request, parse, decimal, answer_line, printed}
 use Rattle.model.specs.Journal.{requested, line_effect, unended, transcript}
 use Rattle.text.specs.Parts.{before, after}
-use Rattle.text.proofs.PartLaws.{split-before}
+use Rattle.text.proofs.PartLaws.{length_before, split-before}
 use Rattle.answers.proofs.AnswerLaws.{printed_most}
 
--- ---- a line of at most one byte is no request
+-- ---- a line of at most three bytes is no request
 
--- every word has two letters at least
+-- every word has four letters at least
 abbrev long : List Form → Bool
 long [] = true
-long (f ∷ fs) = ltb 1 (length f.word) && long fs
+long (f ∷ fs) = ltb 3 (length f.word) && long fs
 
-short_none : (w : List ℕ) (args : List (List ℕ)) (fs : List Form) → length w ≤ 1 → T (long fs) → by_word w args fs ≡ none
+short_none : (w : List ℕ) (args : List (List ℕ)) (fs : List Form) → length w ≤ 3 → T (long fs) → by_word w args fs ≡ none
 short_none w args [] l t = refl
 short_none w args (f ∷ fs) l t =
     ap (λ (b : Bool). elim b as (λ x. Option Call) [ true ↦ f.read args | false ↦ by_word w args fs ])
-    (same_long w f.word (λ e. absurd (omega (arith, ltb→lt 1 (length f.word) (and_l (ltb 1 (length f.word)) (long fs) t)))))
-    ∙ short_none w args fs l (and_r (ltb 1 (length f.word)) (long fs) t)
+    (same_long w f.word (λ e. absurd (omega (arith, ltb→lt 3 (length f.word) (and_l (ltb 3 (length f.word)) (long fs) t)))))
+    ∙ short_none w args fs l (and_r (ltb 3 (length f.word)) (long fs) t)
 
-parse_short : (w : List ℕ) → length w ≤ 1 → parse w ≡ none
+pub parse_short : (s : List ℕ) → length s ≤ 3 → parse s ≡ none
 unfolding parse forms
-parse_short [] l = short_none [] [] forms (omega arith) tt
-parse_short (b ∷ []) l = cases (eqb b 32)
-  where
-    cases : (t : Bool) → request (cond t ([] ∷ [] ∷ []) ((b ∷ []) ∷ [])) ≡ none
-    cases true = short_none [] ([] ∷ []) forms (omega arith) tt
-    cases false = short_none (b ∷ []) [] forms (omega arith) tt
-parse_short (b ∷ d ∷ w) l = absurd (omega arith)
+parse_short s l =
+    ap request (split-before 32 s)
+    ∙ short_none (before 32 s) (after 32 (drop (length (before 32 s)) s)) forms (omega (arith, l, length_before 32 s)) tt
 
 -- ---- one line, with its line feed
 
@@ -55,7 +51,7 @@ unfolding line_effect
 line_most r w = cases (dec_le (length w) 1)
   where
     cases : Dec (length w ≤ 1) → length (printed (requested r (parse w)).answer) ≤ 5 * (length w + 1)
-    cases (yes l) = omega (arith, ap (λ (o : Option Call). length (printed (requested r o).answer)) (parse_short w l) ∙ refused_size)
+    cases (yes l) = omega (arith, ap (λ (o : Option Call). length (printed (requested r o).answer)) (parse_short w (omega (arith, l))) ∙ refused_size)
     cases (no g) = omega (arith, printed_most (requested r (parse w)).answer)
 
 -- ---- the whole input

@@ -11,6 +11,7 @@ ghost use Rattle.origins.specs.Authority.{Columns};
 ghost use Rattle.dispatch.specs.Decide.{performed};
 ghost use Rattle.sweeps.specs.Sweeping.{swept_by};
 ghost use Rattle.player.specs.Play.{journal_length, journal_buffer};
+ghost use Rattle.player.specs.Steps.{call_in};
 
 use crate::step::{Step, step_of};
 use answers::print;
@@ -83,6 +84,20 @@ fn perform_tree(r: &mut Register, columns: &mut RoleColumns, t: TreeRequest) -> 
     }
 }
 
+// What is to be done for a line. A function of its own, as it pays for its locals when it is entered, and many lines are refused before.
+fn perform_step(r: &mut Register, columns: &mut RoleColumns, step: Step) -> Answer
+    requires formed { T (well_formed r.old) }
+    requires columns { Columns columns.old r.old.roles }
+    ensures effect { performed result r.new ≡ settled r.old (call_in step) }
+    ensures columns { Columns columns.new r.new.roles }
+{
+    match step {
+        Step::Check(number, permission, at) => checked(r, columns, number, permission, at),
+        Step::One(q) => perform_local(r, columns, q),
+        Step::Tree(t) => perform_tree(r, columns, t),
+    }
+}
+
 // A line. The register is changed in place, since a function that took it by value would copy it for each line. `formed` is what the
 // test of the rules says of it, and `columns` are those of its roles.
 #[tactic(auto, using(crate::proofs::Laws::line_done))]
@@ -92,23 +107,19 @@ fn play_line(r: &mut Register, columns: &mut RoleColumns, formed: bool, line: &[
     ensures effect { performed result r.new ≡ line_effect r.old line.now }
     ensures columns { Columns columns.new r.new.roles }
 {
-    match step_of(formed, line)? {
-        Step::Check(number, permission, at) => checked(r, columns, number, permission, at),
-        Step::One(q) => perform_local(r, columns, q),
-        Step::Tree(t) => perform_tree(r, columns, t),
-    }
+    let step = step_of(formed, line)?;
+    perform_step(r, columns, step)
 }
 
 // The lines of an input, from any register; the output has room for five bytes a byte. No `for` over the parts between line feeds: the
 // last part is answered otherwise, whatever it holds.
 #[tactic(auto, using(buffers::proofs::Parts::tail, buffers::proofs::Parts::length_tail, buffers::proofs::Parts::placed_nil, crate::proofs::Transcripts::transcript_done, crate::proofs::Laws::Playing, crate::proofs::Laws::left_fits, crate::proofs::Laws::to_within, crate::proofs::Room::transcript_most))]
-fn play(start: Register, input: &[u8], out: &mut [u8]) -> usize
+fn play(mut r: Register, input: &[u8], out: &mut [u8]) -> usize
     requires { 5 * length input.now ≤ length out.old }
-    ensures { (result ≡ length (transcript start (split 10 input.now))) × (out.new ≡ front (transcript start (split 10 input.now)) out.old) × (result ≤ length out.old) }
+    ensures { (result ≡ length (transcript r (split 10 input.now))) × (out.new ≡ front (transcript r (split 10 input.now)) out.old) × (result ≤ length out.old) }
 {
-    let formed = well_formed(start);
-    let mut columns = columns_of(&start.roles);
-    let mut r = start;
+    let formed = well_formed(r);
+    let mut columns = columns_of(&r.roles);
     let mut rest = input;
     let mut to = 0;
     while 0 < rest.len() {

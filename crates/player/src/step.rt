@@ -13,11 +13,14 @@ pub enum Step {
     Tree(TreeRequest),
 }
 
-// `formed` is what the test of the rules says of the register.
-#[tactic(auto, using(crate::proofs::Laws::line_none, crate::proofs::Laws::line_broken, crate::proofs::Laws::line_says))]
+// `formed` is what the test of the rules says of the register. A request's word has four letters at least, so that a shorter line is none.
+#[tactic(auto, using(crate::proofs::Laws::line_short, crate::proofs::Laws::line_none, crate::proofs::Laws::line_broken, crate::proofs::Laws::line_says))]
 pub fn step_of(formed: bool, line: &[u8]) -> Result<Step, Refusal>
     ensures { Fits formed line.now result }
 {
+    if line.len() < 4 {
+        return Err(Refusal::Malformed);
+    }
     if formed && let Some((session, permission, context)) = check_of(line) {
         return Ok(Step::Check(session, permission, context));
     }

@@ -16,7 +16,7 @@ pub overflow_add-result : goal.overflow_add-result
 overflow_add-result c =
     let a = c.args in
     let l = c.loop-rest in
-    let room = unended_room (transcript a.start (split 10 a.input.now)) a.out.now l.r l.out l.rest.now l.to l.invariant.0 c.count_before-n.result (search) c.if-n-rest.true (omega arith) in
+    let room = unended_room (transcript a.r (split 10 a.input.now)) a.out.now l.r l.out l.rest.now l.to l.invariant.0 c.count_before-n.result (search) c.if-n-rest.true (omega arith) in
     omega (arith, room, answer_size l.to (refused 1) l.out room c.print.ensures.0)
 
 pub returns-then-n-rest : goal.returns-then-n-rest
@@ -24,7 +24,7 @@ returns-then-n-rest c =
     let a = c.args in
     let l = c.loop-rest in
     let e = transcript_last l.r l.rest.now c.count_before-n.result (search) c.if-n-rest.true (omega arith) in
-    let room = unended_room (transcript a.start (split 10 a.input.now)) a.out.now l.r l.out l.rest.now l.to l.invariant.0 c.count_before-n.result (search) c.if-n-rest.true (omega arith) in
+    let room = unended_room (transcript a.r (split 10 a.input.now)) a.out.now l.r l.out l.rest.now l.to l.invariant.0 c.count_before-n.result (search) c.if-n-rest.true (omega arith) in
     let count = answer_size l.to (refused 1) l.out room c.print.ensures.0 in (
       omega (arith, ap length e, count, l.invariant.0.size),
       answer_last l.to (refused 1) l.out room _ c.print.ensures.1 ∙ (rw e at l.invariant.0.text),
@@ -37,11 +37,11 @@ pub overflow_add-to : goal.overflow_add-to
 overflow_add-to c =
     let a = c.args in
     let l = c.loop-rest in
-    omega (arith, played_fits (transcript a.start (split 10 a.input.now)) a.out.now l.r l.out l.rest.now l.to l.invariant.0 c.count_before-n.result (search) (omega arith) _ _ c.play_line-answer.ensures.effect _ _ c.print-to.ensures)
+    omega (arith, played_fits (transcript a.r (split 10 a.input.now)) a.out.now l.r l.out l.rest.now l.to l.invariant.0 c.count_before-n.result (search) (omega arith) _ _ c.play_line-answer.ensures.effect _ _ c.print-to.ensures)
 
 pub loop-rest-preserved : goal.loop-rest-preserved
 loop-rest-preserved c =
     let a = c.args in
     let l = c.loop-rest in
-    let w = played (transcript a.start (split 10 a.input.now)) a.out.now l.r l.out l.rest.now l.to l.invariant.0 c.count_before-n.result (search) (omega arith) _ _ c.play_line-answer.ensures.effect _ _ c.print-to.ensures l.invariant.1 (search) in
+    let w = played (transcript a.r (split 10 a.input.now)) a.out.now l.r l.out l.rest.now l.to l.invariant.0 c.count_before-n.result (search) (omega arith) _ _ c.play_line-answer.ensures.effect _ _ c.print-to.ensures l.invariant.1 (search) in
     (w.0, w.1, c.play_line-answer.ensures.columns, omega (arith, length_tail (c.count_before-n.result + 1) l.rest.now, l.invariant.3))
