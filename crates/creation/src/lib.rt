@@ -8,7 +8,7 @@ ghost use Rattle.model.specs.Requests.{named_origin};
 ghost use Rattle.origins.specs.Terms.{terms_in};
 ghost use Rattle.slots.specs.Guards.{guarded, first_number};
 ghost use Rattle.slots.specs.Slots.{ruled_of};
-ghost use Rattle.creation.specs.Creation.{made_of, creation_tests, create_decision};
+ghost use Rattle.creation.specs.Creation.{made_of, creating_from, creation_tests, create_decision};
 
 use masks::member;
 use model::{Capability, Context, Named, Origin, Plan, Refusal};
@@ -63,9 +63,9 @@ fn made(user: u32, origin: Named, plan: Plan) -> Capability
     }
 }
 
-// The tests of create: the origin o is read from its slot and allows a.
+// The tests of create, on the new capability as it is made: the origin o is read from its slot and allows a.
 #[tactic(auto, unfolding(slots::specs::Guards::first_number))]
-fn create_guards(
+fn create_tests(
     v: Slots,
     o: Origin,
     a: Allowance,
@@ -96,6 +96,22 @@ fn create_guards(
     ensure(party.may_create(), Refusal::Exhausted)?;
     ensure(is_below(made(user, origin, plan), a), Refusal::Exceeds)?;
     ensure(v.count < 256, Refusal::Full)
+}
+
+// They are the ruling's own: where the ranges pass, the new capability has the numbers of the request.
+fn create_guards(
+    v: Slots,
+    o: Origin,
+    a: Allowance,
+    user: u32,
+    origin: Named,
+    at: Context,
+    plan: Plan,
+) -> Result<(), Refusal>
+    ensures tests { guarded result ≡ first_number (creation_tests v o (terms_in a) user origin at plan) }
+    ensures ruled { guarded result ≡ first_number (creating_from v o (terms_in a) user origin at plan).guards }
+{
+    create_tests(v, o, a, user, origin, at, plan)
 }
 
 // The slot `role` or `parent` is the origin, the slot `capability` the place of the new capability.

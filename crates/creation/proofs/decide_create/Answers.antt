@@ -10,7 +10,7 @@ use Rattle.slots.specs.Terms.{created_in}
 use Rattle.slots.proofs.GuardLaws.{raised_below}
 use Rattle.slots.proofs.CountLaws.{created_below}
 use Rattle.creation.specs.Creation.{creating_on, create_decision}
-use Rattle.creation.proofs.Laws.{create_agrees, made_exact}
+use Rattle.creation.proofs.Laws.{ruled_agrees, made_exact}
 use Rattle.creation.proofs.decide_create.Goals as goal
 
 pub returns : goal.returns
@@ -21,7 +21,7 @@ returns c =
     let o = named_origin x.origin in
     let q = creating_on v x.columns.now o x.user x.origin x.at x.plan in
     c.settle.ensures q.guards q.result (with_created_slots v (suc v.count) (created_in o v.parent) q.after) tt
-    (create_agrees v x.columns.now x.user x.origin x.at x.plan c.create_guards-guards.ensures c.origin_allows-a.ensures (search))
+    (ruled_agrees v x.columns.now x.user x.origin x.at x.plan c.create_guards-guards.ensures.ruled c.origin_allows-a.ensures (search))
     (λ g. (
       refl,
       rw (
