@@ -1,5 +1,5 @@
 -- Laws of codings, of the fields that a map of fields says are there, and of each turn of a loop over fields.
-use mathlib.Core.Path.{◌≡◌, refl, ap, ◌∙◌}
+use mathlib.Core.Path.{◌≡◌, refl, sym, ap, ◌∙◌}
 use mathlib.Core.List.{List, [], ◌∷◌, ◌++◌}
 use Prim.Native.Nat.{ℕ, zero, suc, ◌+◌, ◌-◌, ◌*◌, ◌/◌, ◌%◌, ◌^◌, ◌≤◌, ◌<◌}
 use native.Mathlib.Nat.{pow-suc, one-mul, one-le-pow, not-suc-le-zero, le_of_suc-le-suc}
@@ -88,6 +88,10 @@ write_map (c ∷ cs) (v ∷ vs) =
 pub set_from : (v : ℕ) → from_bool (not (eqb v 0)) ≡ is_set v
 set_from zero = refl
 set_from (suc v) = rw (ne_eqb (suc v) 0 (λ z. omega arith)) refl
+
+-- a field is written by its bit exactly if it is not 0
+pub set_bit : (c : Meant) (v : ℕ) {b : ℕ} → b ≡ from_bool (not (eqb v 0)) → write_set c v ≡ write_bit b c v
+set_bit c v e = rw (e, set_from) (sym (bit_set c v))
 
 pub bit_from : (b : Bool) → from_bool b ≡ bit b
 bit_from true = refl

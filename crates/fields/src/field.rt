@@ -1,7 +1,7 @@
 // Maps of fields, which say which of a record's fields are there, and those fields written.
 ghost use Rattle.std.specs.Prelude.{◌≡◌, ◌*◌, ◌<◌, ◌≤◌, length};
 ghost use Rattle.masks.specs.Bytes.{front};
-ghost use Rattle.model.specs.Fields.{field_map};
+ghost use Rattle.model.specs.Fields.{write_all, write_present, field_map};
 ghost use Rattle.fields.specs.Codes.{codings, write_marked};
 
 use crate::coding::Coding;
@@ -38,6 +38,30 @@ pub fn put_marked(s: &mut [u8], map: u64, fields: &[Coding], values: &[u64]) -> 
     for (i, coding) in fields.iter().enumerate() {
         at += coding.put_if(bits % 2, &mut s[at..], values[i]);
         bits /= 2;
+    }
+    at
+}
+
+// Writes all fields one after another, however many and wide they are; the bytes written.
+pub fn put_all(s: &mut [u8], fields: &[Coding], values: &[u64]) -> usize
+    requires { (length fields.now ≡ length values.now) × (length (write_all (codings fields.now) values.now) ≤ length s.old) }
+    ensures { (result ≡ length (write_all (codings fields.now) values.now)) × (s.new ≡ front (write_all (codings fields.now) values.now) s.old) }
+{
+    let mut at = 0;
+    for (i, coding) in fields.iter().enumerate() {
+        at += coding.put_if(1, &mut s[at..], values[i]);
+    }
+    at
+}
+
+// Writes the fields that are not 0, likewise; the bytes written.
+pub fn put_present(s: &mut [u8], fields: &[Coding], values: &[u64]) -> usize
+    requires { (length fields.now ≡ length values.now) × (length (write_present (codings fields.now) values.now) ≤ length s.old) }
+    ensures { (result ≡ length (write_present (codings fields.now) values.now)) × (s.new ≡ front (write_present (codings fields.now) values.now) s.old) }
+{
+    let mut at = 0;
+    for (i, coding) in fields.iter().enumerate() {
+        at += coding.put_if(u64::from(values[i] != 0), &mut s[at..], values[i]);
     }
     at
 }

@@ -1,0 +1,6 @@
+use Rattle.model.specs.Fields.{write_present}
+use Rattle.fields.proofs.Putting.{ListTo}
+use Rattle.fields.proofs.field.put_present.Given as goal
+
+abbrev pub invariant-loop-i : goal.invariant-loop-i
+invariant-loop-i l = ListTo write_present l.fields l.values l.initial.s l.s l.at l.i
